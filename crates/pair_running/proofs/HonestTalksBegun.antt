@@ -20,8 +20,7 @@ use Rattle.pair_laws.specs.BegunPairsLaws.{AcceptedSlavesStay, AcceptedPairsBegi
 use Rattle.pair_laws.specs.PairStepsEnds.{Begins}
 use Rattle.pair_laws.specs.AwaitedRepliesLaws.{RepliesAreAwaited}
 use Rattle.slave_soundness_law.specs.MessagesLaws.{SpokenMessagesAreSpelled}
-use Rattle.pair_texts.specs.OutcomeSeen.{HaveBegun}
-use Rattle.pair_texts.specs.Start.{Texts}
+use Rattle.pair_texts.specs.Start.{HaveBegun, Texts}
 use Rattle.pair_running.specs.HonestTalksLaws.{BegunPairsAreFair}
 
 -- what both begin as the halves of

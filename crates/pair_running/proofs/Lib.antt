@@ -1,16 +1,14 @@
 mod LocalPairBeginning
 pub mod LocalPairCuts
 pub mod LocalPairOneOutcome
-pub mod LocalPairOneSeen
 mod LocalPairTalking
 mod SpawnedPairBeginning
 pub mod SpawnedPairCuts
-mod SpawnedPairEnding
 mod SpawnedPairHonest
 pub mod SpawnedPairLinks
 mod SpawnedPairServing
 mod GeneratedPairOutcomes
-mod GeneratedPairRuns
+pub mod GeneratedPairRuns
 pub mod HonestTalksAnywhere
 pub mod HonestTalksBegun
 pub mod HonestTalksCutting

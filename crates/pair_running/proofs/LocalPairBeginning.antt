@@ -1,5 +1,5 @@
 -- What begins from texts comes to what is expected of them.
-use Rattle.std.proofs.Common.{◌≡◌, ◌∙◌, ◌<◌, ◌≤◌, ◌+◌, ◌^◌, ℕ, List, refl, sym, ap, subst, arith}
+use Rattle.std.proofs.Common.{◌≡◌, ◌∙◌, ◌<◌, ◌≤◌, ◌+◌, ◌^◌, ℕ, List, [], Some, None, Err, refl, sym, ap, subst, arith}
 use Rattle.std.specs.Prelude.{All, IsTrue, Option}
 use Rattle.host_models.specs.Fitting.{fits}
 use Rattle.host_table.specs.Hosts.{hosts_of}
@@ -18,17 +18,16 @@ use Rattle.monitor_interp.specs.Gates.{hosts_for}
 use Rattle.pair_running.specs.MemoryTalksLaws.{ComesToAnEnd}
 use Rattle.pair_laws.specs.BegunPairsLaws.{HostsAre}
 use Rattle.pair_laws.specs.BegunPairsLaws.{DoesWhatIsExpected, expected_of}
-use Rattle.pair_texts.specs.declared.outcome.Outcome.{Outcome}
-use Rattle.pair_texts.specs.declared.outcome.Outcome.TheVariants.{Begins}
-use Rattle.pair_texts.specs.declared.outcome.Pair.{Pair}
-use Rattle.pair_texts.specs.OutcomeSeen.{HaveBegun, IsOutcome, monitor_in}
-use Rattle.pair_texts.specs.Start.{Texts, names_of}
+use Rattle.pair_meaning.specs.LinkChoosing.{AreTaken}
+use Rattle.stages.specs.declared.refusal.Stop.{Stop}
+use Rattle.stages.specs.declared.refusal.Stop.TheVariants.{Refused, Memory}
+use Rattle.pair_texts.specs.declared.pair.Pair.{Pair}
+use Rattle.pair_texts.specs.Seen.{monitor_in}
+use Rattle.pair_texts.specs.Start.{HaveBegun, Texts}
 use Rattle.pair_laws.specs.BegunPairsLaws.{BegunBootsAreWellFormed, BegunMonitorsAreWellFormed, BegunMonitorsHostsServe, BegunPairsAreExpected}
-use Rattle.pair_running.specs.declared.local_pair.outcome.Ended.{Ended}
 use Rattle.pair_running.specs.declared.local_pair.running.Begun.{Begun}
-use Rattle.pair_running.specs.LocalPairEnds.{ended_with}
-use Rattle.pair_running.specs.LocalPairLocal.{ComesTo, ran}
-use Rattle.pair_running.specs.LocalPairOutcomeSeen.{ended_seen}
+use Rattle.pair_running.specs.LocalPairLocal.{IsPairRun}
+use Rattle.pair_running.specs.LocalPairOutcomeSeen.{IsWholeRun}
 use Rattle.pair_running.specs.LocalPairRunning.{AreTextsOf, BeginsAs, HaveRun, StandAt}
 use Rattle.pair_running.specs.LocalPairWhole.{HasWhole, alone}
 
@@ -49,10 +48,6 @@ hosts_serve law pair turns t texts = law t turns (view_boot pair.boot) (monitor_
 pub input_is_bytes : (pair : Pair) (turns : ℕ) (t : Texts) → AreTextsOf pair turns t → All (λ b. b < 256) (hosts_of pair.hosts).input
 input_is_bytes pair turns t texts =
     subst (λ (bytes : List ℕ). All (λ b. b < 256) bytes) (sym (ap (λ (m : Monitor). m.input) (begun_of pair turns t texts).started.monitor_is)) texts.bytes
-
--- texts that come to a pair, and whose input is of bytes
-pub texts_of : (pair : Pair) (turns : ℕ) (t : Texts) (o : Outcome) → IsOutcome t turns o → o ≡ Begins pair → All (λ b. b < 256) t.input → AreTextsOf pair turns t
-texts_of pair turns t o is same bytes = record { begins = subst (λ (x : Outcome). IsOutcome t turns x) same is; bytes = bytes }
 
 -- ---- what is expected
 
@@ -84,25 +79,36 @@ stand_at law pair turns window begun t small some texts as_said = record {
   ends = comes_to_an_end (expected_in pair turns t texts) (view_boot pair.boot) (alone (monitor_in pair turns)) window some (does law pair turns t texts small);
 }
 
+-- ---- where nothing begins
+
+-- no answer is taken
+none_taken : (told : Option (ℕ → base.Who)) → AreTaken [] told told
+none_taken None = tt
+none_taken (Some told) = λ k. refl
+
+pub none_run : (t : Texts) (turns window : ℕ) (told : Option (ℕ → base.Who)) (stop : Stop) → IsWholeRun t turns window told told (Err stop)
+none_run t turns window told (Refused refusal) = none_taken told
+none_run t turns window told Memory = tt
+
 -- ---- what it comes to
 
 -- a run of both halves of a pair
 abbrev pub RunOf : Pair → ℕ → ℕ → Option (ℕ → base.Who) → Option (ℕ → base.Who) → List ℕ → End → Type 0
 RunOf pair turns window told told' bytes end = HaveRun (slave_of (view_boot pair.boot)) (alone (monitor_in pair turns)) window told told' bytes end
 
-pub comes_to : BegunPairsAreExpected → (pair : Pair) (turns window : ℕ) (told told' : Option (ℕ → base.Who)) (t : Texts) (bytes : List ℕ) (end : End) (names : List (List ℕ)) (shown : Ended) → turns < 2 ^ 32 →
-    AreTextsOf pair turns t → RunOf pair turns window told told' bytes end → names ≡ pair.names → ended_seen shown ≡ ended_with names end → ComesTo t turns (ran bytes (ended_seen shown))
-comes_to law pair turns window told told' t bytes end names shown small texts run named is =
+pub comes_to : BegunPairsAreExpected → (pair : Pair) (turns window : ℕ) (told told' : Option (ℕ → base.Who)) (t : Texts) (bytes : List ℕ) (end : End) (names : List (List ℕ)) → turns < 2 ^ 32 →
+    AreTextsOf pair turns t → RunOf pair turns window told told' bytes end → names ≡ pair.names → IsPairRun turns t (record { bytes = bytes; names = names; end = end })
+comes_to law pair turns window told told' t bytes end names small texts run named =
     let b = (begun_of pair turns t texts).started in
     let e = expected_in pair turns t texts in
     let same : e ≡ record { bytes = bytes; end = end } = (does law pair turns t texts small).runs window run.answers bytes end run.whole in
-    let back : record { bytes = bytes; end = end } ≡ e = sym same in
-    let names_are : names ≡ names_of b.tree = named ∙ texts.begins.1 in (
+    let back : record { bytes = bytes; end = end } ≡ e = sym same in (
       b.tree,
       e,
       record { hosts = b.hosts; rules = b.rules; accepted = b.accepted; read = b.read; is = b.is; short = b.short; expected_is = refl },
       ap (λ (x : Expected). x.bytes) back,
-      is ∙ (λ i. ended_with (names_are i) (back i).end),
+      named ∙ texts.begins.1,
+      ap (λ (x : Expected). x.end) back,
     )
 
 pub has_whole : (pair : Pair) (turns window : ℕ) (told told' : Option (ℕ → base.Who)) (t : Texts) (bytes : List ℕ) (end : End) →

@@ -4,15 +4,16 @@ use Rattle.std.proofs.Common.{◌≡◌, ◌≤◌, ◌∙◌, ℕ, List, Option
 use Rattle.pt_base.specs.declared.chooser.Who.{Who}
 use Rattle.runs.specs.Run.{Expected}
 use Rattle.typed_tree.specs.TypedTree.{TypedTree}
-use Rattle.host_lines.specs.GivenHosts.{most}
-use Rattle.host_lines.proofs.Cuts.{short_cut}
 use Rattle.policy.specs.Verdicts.{start}
+use Rattle.stages.specs.Climb.{of_pair}
+use Rattle.stages.specs.Commands.{AreCut}
+use Rattle.stages.specs.GivenHosts.{most}
+use Rattle.stages.proofs.Commands.{whole_climb}
+use Rattle.stages.proofs.Cuts.{short_cut}
 use Rattle.pair_laws.specs.BegunPairsLaws.{expected_of}
-use Rattle.pair_texts.specs.Laws as begun
-use Rattle.pair_texts.specs.Laws.{AreCut}
 use Rattle.pair_texts.specs.Start.{Texts}
-use Rattle.pair_texts.proofs.Cuts.{cut_whole as begun_whole, read_whole}
-use Rattle.pair_running.specs.LocalPairLocal.{CutsAreEnough, IsExpected, ran, refused}
+use Rattle.pair_texts.proofs.Cuts.{read_whole, started_whole}
+use Rattle.pair_running.specs.LocalPairLocal.{CutsAreEnough, IsExpected, IsPairRun, Ran}
 use Rattle.pair_running.specs.LocalPairWhole.{HasWhole}
 
 expected_whole : (whole cut : Texts) (turns : ℕ) (tree : TypedTree) (e : Expected) → AreCut whole cut → IsExpected cut turns tree e → IsExpected whole turns tree e
@@ -28,16 +29,19 @@ expected_whole whole cut turns tree e is x =
       expected_is = x.expected_is ∙ ap (λ xs. expected_of tree (start x.rules) x.hosts xs turns) same;
     }
 
+-- the run of these first bytes is that of the whole texts
+pub run_whole : (turns : ℕ) (whole cut : Texts) (r : Ran) → AreCut whole cut → IsPairRun turns cut r → IsPairRun turns whole r
+run_whole turns whole cut r is x = (x.0, x.1, expected_whole whole cut turns x.0 x.1 is x.2, x.3, x.4, x.5)
+
 pub cut_whole : CutsAreEnough
-cut_whole whole cut turns (refused r) is comes = begun_whole whole cut turns (begun.refused r) is comes
-cut_whole whole cut turns (ran bytes end) is comes = (comes.0, comes.1, expected_whole whole cut turns comes.0 comes.1 is comes.2, comes.3, comes.4)
+cut_whole whole cut turns o = whole_climb of_pair (IsPairRun turns) (run_whole turns) whole cut o
 
 -- a whole run of these first bytes is one of the whole texts
 pub cut_run : (whole cut : Texts) (turns window : ℕ) (told told' : Option (ℕ → Who)) (bytes : List ℕ) → AreCut whole cut → HasWhole cut turns window told told' bytes → HasWhole whole turns window told told' bytes
 cut_run whole cut turns window told told' bytes is x = record {
   boot = x.boot;
   monitor = x.monitor;
-  started = begun_whole whole cut turns (begun.begins x.boot x.monitor) is x.started;
+  started = started_whole whole cut turns x.boot x.monitor is x.started;
   answers = x.answers;
   taken = x.taken;
   end = x.end;

@@ -1,17 +1,19 @@
 -- What a monitor begins with, of texts.
-use Rattle.std.proofs.Common.{◌≡◌, ◌<◌, ℕ, List, Vec, sym, ap, subst}
-use Rattle.std.specs.declared.alloc.Global.{Global}
+use Rattle.std.proofs.Common.{◌≡◌, ◌∙◌, ◌<◌, ℕ, List, Result, Err, MatchResult, sym, ap, subst}
 use Rattle.std.specs.Prelude.{All, IsTrue}
 use Rattle.host_table.specs.Hosts.{hosts_of}
 use Rattle.host_table.specs.RunHosts.{models_of}
 use Rattle.pt_core.specs.CodeTree.{view_boot, view_monitor}
 use Rattle.pt_core.specs.WellFormed.{is_well_formed_monitor}
 use Rattle.pair_meaning.specs.Monitors.{Monitor}
-use Rattle.pair_texts.specs.declared.outcome.Outcome.{Outcome}
-use Rattle.pair_texts.specs.declared.outcome.Outcome.TheVariants.{Begins, Refused}
-use Rattle.pair_texts.specs.declared.outcome.Pair.{Pair}
-use Rattle.pair_texts.specs.OutcomeSeen.{AreLinesOf, HaveBegun, IsOutcome, monitor_in}
-use Rattle.pair_texts.specs.Start.{Texts}
+use Rattle.stages.specs.Climb.{IsRefused, of_pair}
+use Rattle.stages.specs.Seen.{IsStop, view_refusal}
+use Rattle.stages.specs.declared.refusal.Refusal.{Refusal}
+use Rattle.stages.specs.declared.refusal.Stop.{Stop}
+use Rattle.stages.specs.declared.refusal.Stop.TheVariants.{Refused}
+use Rattle.pair_texts.specs.declared.pair.Pair.{Pair}
+use Rattle.pair_texts.specs.Seen.{HasPair, monitor_in}
+use Rattle.pair_texts.specs.Start.{HaveBegun, Texts}
 use Rattle.pair_running.specs.HonestTalksLaws.{BegunMonitorsAreWellFormed, BegunMonitorsHostsServe, HostsServe}
 use Rattle.pair_running.specs.LocalPairRunning.{AreTextsOf}
 
@@ -28,10 +30,7 @@ pub input_is_bytes : (pair : Pair) (turns : ℕ) (t : Texts) → AreTextsOf pair
 input_is_bytes pair turns t texts =
     subst (λ (bytes : List ℕ). All (λ b. b < 256) bytes) (sym (ap (λ (m : Monitor). m.input) (begun_of pair turns t texts).started.monitor_is)) texts.bytes
 
--- texts that come to a pair, and whose input is of bytes
-pub texts_of : (pair : Pair) (turns : ℕ) (t : Texts) (o : Outcome) → IsOutcome t turns o → o ≡ Begins pair → All (λ b. b < 256) t.input → AreTextsOf pair turns t
-texts_of pair turns t o is same bytes = record { begins = subst (λ (x : Outcome). IsOutcome t turns x) same is; bytes = bytes }
-
--- texts that have faults
-pub lines_of_texts : (lines : Vec ℕ Global) (turns : ℕ) (t : Texts) (o : Outcome) → IsOutcome t turns o → o ≡ Refused lines → AreLinesOf t lines.items
-lines_of_texts lines turns t o is same = subst (λ (x : Outcome). IsOutcome t turns x) same is
+-- texts that are refused
+pub refused_so : (turns : ℕ) (t : Texts) (r : Result Pair Stop) (e : Stop) (refusal : Refusal) → MatchResult r (HasPair t turns) (IsStop of_pair t) → r ≡ Err e → e ≡ Refused refusal
+    → IsRefused of_pair t (view_refusal refusal)
+refused_so turns t r e refusal is same as_said = subst (λ (x : Result Pair Stop). MatchResult x (HasPair t turns) (IsStop of_pair t)) (same ∙ ap Err as_said) is

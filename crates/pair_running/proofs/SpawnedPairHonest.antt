@@ -13,9 +13,9 @@ use Rattle.pair_runner.specs.declared.fault.RunFault.{RunFault}
 use Rattle.pair_runner.specs.declared.fault.RunFault.TheVariants.{LinkFailed, SinkFailed, BadPeer, PeerEnded, Memory}
 use Rattle.pair_runner.specs.Outcomes.{IsOutcome, Stops, behind_boot, broken_behind_boot}
 use Rattle.pair_runner.specs.Sending.{Breaks, Moves, boot_talk}
-use Rattle.pair_texts.specs.declared.outcome.Pair.{Pair}
-use Rattle.pair_texts.specs.OutcomeSeen.{monitor_in}
-use Rattle.pair_texts.specs.Start.{Texts, names_of}
+use Rattle.pair_texts.specs.declared.pair.Pair.{Pair}
+use Rattle.pair_texts.specs.Seen.{monitor_in}
+use Rattle.pair_texts.specs.Start.{Texts}
 use Rattle.pair_running.specs.HonestTalksLaws.{HostsAre, expected_of}
 use Rattle.policy.specs.Verdicts.{start}
 use Rattle.pt_base.specs.declared.end.End.{End}
@@ -23,9 +23,6 @@ use Rattle.pt_base.specs.Talk.{Event, gave, took}
 use Rattle.pt_core.specs.CodeTree.{BootTree, MonitorTree, view_boot}
 use Rattle.runs.specs.Run.{Expected}
 use Rattle.runs.specs.State.{Hosts}
-use Rattle.pair_running.specs.declared.local_pair.outcome.Ended.{Ended}
-use Rattle.pair_running.specs.LocalPairEnds.{ended_with}
-use Rattle.pair_running.specs.LocalPairOutcomeSeen.{ended_seen}
 use Rattle.pair_running.specs.LocalPairRunning.{AreTextsOf}
 use Rattle.pair_running.specs.LocalPairWhole.{alone}
 use Rattle.pair_running.specs.declared.spawned_pair.outcome.Outcome.TheVariants.{Ran}
@@ -116,22 +113,21 @@ expected_fault starts came honest sent given taken a b k n pair turns t bytes (B
 expected_fault starts came honest sent given taken a b k n pair turns t bytes PeerEnded x outcome = not_open _ (stops_as_expected starts came honest sent given taken a b k n pair turns t bytes still_open x outcome).at
 expected_fault starts came honest sent given taken a b k n pair turns t bytes Memory x outcome = tt {0}
 
-pub expected_end : {S K : Type 0} (starts : S → S → Type 0) (came : S → List Event → S → Type 0) (honest : S → (List ℕ → List ℕ) → (List ℕ → Bool) → Type 0) (sent given : S → Option (List ℕ)) (taken : K → Option (List ℕ)) (a b : S) (k n : K) (pair : Pair) (turns : ℕ) (t : Texts) (bytes : List ℕ) (end : End) (names : List (List ℕ)) (shown : Ended) →
+pub expected_end : {S K : Type 0} (starts : S → S → Type 0) (came : S → List Event → S → Type 0) (honest : S → (List ℕ → List ℕ) → (List ℕ → Bool) → Type 0) (sent given : S → Option (List ℕ)) (taken : K → Option (List ℕ)) (a b : S) (k n : K) (pair : Pair) (turns : ℕ) (t : Texts) (bytes : List ℕ) (end : End) (names : List (List ℕ)) →
     Knows honest sent given a pair turns t bytes → IsOutcome (behind_boot (Moves (Started starts came honest sent given) sent given taken a b k n) bytes) (broken_behind_boot (Breaks sent given taken a b k n) bytes) (alone (monitor_in pair turns)) (Ok end) →
-    names ≡ pair.names → ended_seen shown ≡ ended_with names end → IsExpectedOver (λ written. Appends (taken k) (taken n) written) t turns (Ok (Ran shown))
-expected_end starts came honest sent given taken a b k n pair turns t bytes end names shown x outcome named is =
+    names ≡ pair.names → IsExpectedOver (λ written. Appends (taken k) (taken n) written) t turns (Ok (Ran end names))
+expected_end starts came honest sent given taken a b k n pair turns t bytes end names x outcome named =
     let begun = (begun_of pair turns t x.texts).started in
     let e = expected_in pair turns t x.texts in
-    let stops = stops_as_expected starts came honest sent given taken a b k n pair turns t bytes (at_end end) x outcome in
-    let ends : end ≡ e.end = one_end end e.end stops.at in
-    let names_are : names ≡ names_of begun.tree = named ∙ x.texts.begins.1 in (
+    let stops = stops_as_expected starts came honest sent given taken a b k n pair turns t bytes (at_end end) x outcome in (
       e.bytes,
       (
         begun.tree,
         e,
         record { hosts = begun.hosts; rules = begun.rules; accepted = begun.accepted; read = begun.read; is = begun.is; short = begun.short; expected_is = refl },
         refl,
-        is ∙ (λ i. ended_with (names_are i) (ends i)),
+        named ∙ x.texts.begins.1,
+        one_end end e.end stops.at,
       ),
       stops.written,
     )

@@ -1,5 +1,5 @@
 -- What a run comes to, over every spawner.
-use Rattle.std.proofs.Common.{◌≡◌, ◌∙◌, ℕ, List, Option, Result, Ok, Err, refl, ap, inr}
+use Rattle.std.proofs.Common.{◌≡◌, ◌∙◌, ℕ, List, Result, Ok, Err, refl, inr}
 use Rattle.boot_fields.specs.Limits.{Spells}
 use Rattle.pt_base.specs.declared.end.End.{End}
 use Rattle.pt_base.specs.Talk.{Event}
@@ -7,19 +7,14 @@ use Rattle.pt_core.specs.CodeTree.{view_boot}
 use Rattle.pair_runner.specs.declared.fault.RunFault.{RunFault}
 use Rattle.pair_runner.specs.declared.fault.RunFault.TheVariants.{LinkFailed, SinkFailed, BadPeer, PeerEnded, Memory}
 use Rattle.pair_runner.specs.Outcomes.{IsOutcome, behind_boot, broken_behind_boot}
-use Rattle.pair_runner.specs.Sending.{Breaks, Moves}
-use Rattle.pair_texts.specs.declared.outcome.Pair.{Pair}
-use Rattle.pair_texts.specs.OutcomeSeen.{monitor_in}
-use Rattle.pair_texts.specs.Start.{Texts, names_of}
-use Rattle.pair_running.specs.declared.local_pair.outcome.Ended.{Ended}
-use Rattle.pair_running.specs.LocalPairEnds.{ended_with}
-use Rattle.pair_running.specs.LocalPairOutcomeSeen.{ended_seen}
+use Rattle.pair_texts.specs.declared.pair.Pair.{Pair}
+use Rattle.pair_texts.specs.Seen.{monitor_in}
+use Rattle.pair_texts.specs.Start.{Texts}
 use Rattle.pair_running.specs.LocalPairRunning.{AreTextsOf}
 use Rattle.pair_running.specs.LocalPairWhole.{alone}
 use Rattle.pair_running.specs.declared.spawned_pair.outcome.Outcome.TheVariants.{Ran}
 use Rattle.pair_running.specs.SpawnedPairOutcomeSeen.{IsServed}
 use Rattle.pair_running.specs.SpawnedPairSupervised.{AreUntouched, IsSupervised}
-use Rattle.pair_running.proofs.SpawnedPairEnding.{all_is_a_part}
 
 -- nothing was done
 pub stays_untouched : {S K : Type 0} (spawner : S) (sink : K) → AreUntouched spawner spawner sink sink
@@ -50,18 +45,8 @@ pub served_fault : (untouched : Type 0) (moves : List Event → List ℕ → Typ
 served_fault untouched moves breaks pair turns t bytes fault texts spelled outcome = broken untouched moves breaks t turns fault (supervised moves breaks pair turns t bytes (Err fault) texts spelled outcome)
 
 -- it came to an end
-pub served_end : (untouched : Type 0) (moves : List Event → List ℕ → Type 0) (breaks : List ℕ → List ℕ → List ℕ → Type 0) (pair : Pair) (turns : ℕ) (t : Texts) (bytes : List ℕ) (end : End) (names : List (List ℕ)) (shown : Ended) →
-    AreTextsOf pair turns t → Spells (view_boot pair.boot) bytes → IsOutcome (behind_boot moves bytes) (broken_behind_boot breaks bytes) (alone (monitor_in pair turns)) (Ok end) → names ≡ pair.names → ended_seen shown ≡ ended_with names end →
-    IsServed untouched moves breaks t turns (Ok (Ran shown))
-served_end untouched moves breaks pair turns t bytes end names shown texts spelled outcome named is =
-    let names_are : names ≡ names_of texts.begins.0.started.tree = named ∙ texts.begins.1 in
-    (end, supervised moves breaks pair turns t bytes (Ok end) texts spelled outcome, is ∙ ap (λ xs. ended_with xs end) names_are)
-
--- it came to an end, and the names wanted memory
-pub served_unnamed : {S K : Type 0} (came : S → List Event → S → Type 0) (sent given : S → Option (List ℕ)) (taken : K → Option (List ℕ)) (a b : S) (k n : K) (untouched : Type 0) (pair : Pair) (turns : ℕ) (t : Texts) (bytes : List ℕ) (end : End) →
-    AreTextsOf pair turns t → Spells (view_boot pair.boot) bytes →
-    IsOutcome (behind_boot (Moves came sent given taken a b k n) bytes) (broken_behind_boot (Breaks sent given taken a b k n) bytes) (alone (monitor_in pair turns)) (Ok end) →
-    IsServed untouched (Moves came sent given taken a b k n) (Breaks sent given taken a b k n) t turns (Err Memory)
-served_unnamed came sent given taken a b k n untouched pair turns t bytes end texts spelled outcome =
-    inr (supervised (Moves came sent given taken a b k n) (Breaks sent given taken a b k n) pair turns t bytes (Err Memory) texts spelled
-    (all_is_a_part came sent given taken a b k n bytes (alone (monitor_in pair turns)) _ outcome))
+pub served_end : (untouched : Type 0) (moves : List Event → List ℕ → Type 0) (breaks : List ℕ → List ℕ → List ℕ → Type 0) (pair : Pair) (turns : ℕ) (t : Texts) (bytes : List ℕ) (end : End) (names : List (List ℕ)) →
+    AreTextsOf pair turns t → Spells (view_boot pair.boot) bytes → IsOutcome (behind_boot moves bytes) (broken_behind_boot breaks bytes) (alone (monitor_in pair turns)) (Ok end) → names ≡ pair.names →
+    IsServed untouched moves breaks t turns (Ok (Ran end names))
+served_end untouched moves breaks pair turns t bytes end names texts spelled outcome named =
+    (supervised moves breaks pair turns t bytes (Ok end) texts spelled outcome, named ∙ texts.begins.1)

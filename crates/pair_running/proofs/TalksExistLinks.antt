@@ -6,8 +6,9 @@ use Rattle.pt_core.specs.CodeTree.{BootTree}
 use Rattle.pair_meaning.specs.Monitors.{Monitor}
 use Rattle.pair_meaning.specs.Peer.{is_form, says}
 use Rattle.pair_runner.specs.Sending.{boot_talk, given_in, sent_in}
-use Rattle.pair_texts.specs.Laws.{Outcome, OutcomeIsOne, begins, refused}
-use Rattle.pair_texts.specs.Start.{AreStarted, Texts}
+use Rattle.stages.specs.Commands.{came}
+use Rattle.pair_texts.specs.Laws.{OutcomeIsOne}
+use Rattle.pair_texts.specs.Start.{AreStarted, Begun, Texts}
 use Rattle.pair_running.specs.TalksExistLaws.{BegunPairsHaveTalks}
 use Rattle.pair_running.specs.TalksExistLinks.{BegunPairsHaveHonestLinks}
 use Rattle.pair_running.specs.TalksExistPlanned.{is_honest, planned}
@@ -16,12 +17,9 @@ one_spelling : (b : BootTree) (x y : List ℕ) → Spells b x → Spells b y →
 unfolding Spells
 one_spelling b x y h k = h.1 ∙ sym k.1
 
-abbrev boot_in : BootTree → Outcome → BootTree
-boot_in b (refused refusal) = b
-boot_in b (begins boot monitor) = boot
-
 one_boot : OutcomeIsOne → (t : Texts) (turns : ℕ) (boot other : BootTree) (monitor rival : Monitor) → AreStarted t turns boot monitor → AreStarted t turns other rival → boot ≡ other
-one_boot one t turns boot other monitor rival is is' = ap (boot_in boot) (one t turns (begins boot monitor) (begins other rival) is is')
+one_boot one t turns boot other monitor rival is is' =
+    ap (λ (b : Begun). b.boot) (one t turns (came (record { boot = boot; monitor = monitor })) (came (record { boot = other; monitor = rival })) is is')
 
 pub honest_links : BegunPairsHaveTalks → OutcomeIsOne → BegunPairsHaveHonestLinks
 honest_links talks one t turns boot monitor b own bytes input small are spells =

@@ -16,8 +16,7 @@ use Rattle.pair_runner.specs.Sending.{boot_talk}
 use Rattle.pair_runner.specs.Serves.{Serves}
 use Rattle.honest_link.specs.Talks.{Along}
 use Rattle.slave_soundness_law.specs.MessagesLaws.{AllAreSpelled}
-use Rattle.pair_texts.specs.OutcomeSeen.{HaveBegun}
-use Rattle.pair_texts.specs.Start.{Texts}
+use Rattle.pair_texts.specs.Start.{HaveBegun, Texts}
 pub use Rattle.pair_laws.specs.BegunPairsLaws.{BegunMonitorsAreWellFormed, BegunMonitorsHostsServe, DoesWhatIsExpected, HostsAre, HostsServe, expected_of, with_hosts}
 
 -- The slave of a boot and a monitor do what is expected, and can do so over a link: all that the slave says has a spelling, and the

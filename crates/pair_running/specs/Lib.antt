@@ -1,8 +1,6 @@
-pub mod LocalPairEnds
 pub mod LocalPairLocal
 pub mod LocalPairOutcomeSeen
 pub mod LocalPairRunning
-pub mod LocalPairSeen
 pub mod LocalPairWhole
 pub mod SpawnedPairLaws
 pub mod SpawnedPairOutcomeSeen

@@ -11,9 +11,8 @@ use Rattle.pair_protocol.specs.Pair.{Who, IsWhole}
 use Rattle.pair_meaning.specs.Monitors.{Monitor}
 use Rattle.pair_meaning.specs.Pair.{the_sides}
 use Rattle.pair_meaning.specs.SlaveRun.{Slave, slave_of}
-use Rattle.pair_texts.specs.declared.outcome.Outcome.TheVariants.{Begins}
-use Rattle.pair_texts.specs.declared.outcome.Pair.{Pair}
-use Rattle.pair_texts.specs.OutcomeSeen.{IsOutcome, monitor_in}
+use Rattle.pair_texts.specs.declared.pair.Pair.{Pair}
+use Rattle.pair_texts.specs.Seen.{HasPair, monitor_in}
 use Rattle.pair_texts.specs.Start.{Texts}
 use Rattle.slave_interp.specs.declared.slave.Slave as code_slave
 use Rattle.slave_interp.specs.Slaves.{IsSlave}
@@ -22,7 +21,7 @@ use Rattle.pair_running.specs.LocalPairWhole.{alone}
 
 -- the pair is what these texts come to, whose input is of bytes
 pub record AreTextsOf (pair : Pair) (turns : ℕ) (t : Texts) : Type 0 where
-  pub begins : IsOutcome t turns (Begins pair)
+  pub begins : HasPair t turns pair
   pub bytes : All (λ b. b < 256) t.input
 
 -- both begin as the pair says

@@ -5,7 +5,7 @@ use Rattle.honest_link.specs.Came.{Started}
 use Rattle.pt_base.specs.Talk.{Event}
 use Rattle.pair_runner.specs.declared.fault.RunFault.{RunFault}
 use Rattle.pair_runner.specs.Sending.{Breaks, Moves}
-use Rattle.pair_texts.specs.Laws.{AreCut}
+use Rattle.stages.specs.Commands.{AreCut}
 use Rattle.pair_texts.specs.Start.{Texts}
 use Rattle.pair_running.specs.declared.spawned_pair.outcome.Outcome.{Outcome}
 use Rattle.pair_running.specs.SpawnedPairOutcomeSeen.{IsExpectedOver, IsHonestFor, IsServed}

@@ -1,29 +1,27 @@
 -- What contracts see of an answer.
 use Rattle.std.specs.Prelude.{◌≡◌, ◌⊎◌, ⊤, ℕ, Bool, List, [], Option, Some, Result, Ok, Err}
 use Rattle.boot_fields.specs.Limits.{Spells}
-use Rattle.pt_base.specs.declared.end.End.{End}
 use Rattle.pt_base.specs.Talk.{Event}
 use Rattle.pt_core.specs.CodeTree.{BootTree}
 use Rattle.pair_meaning.specs.Monitors.{Monitor}
 use Rattle.pair_meaning.specs.Peer.{is_form, says}
 use Rattle.pair_runner.specs.declared.fault.RunFault.{RunFault}
 use Rattle.pair_runner.specs.declared.fault.RunFault.TheVariants.{LinkFailed, SinkFailed, BadPeer, PeerEnded, Memory}
-use Rattle.pair_texts.specs.OutcomeSeen.{AreLinesOf}
-use Rattle.pair_texts.specs.Start.{AreStarted, Texts}
-use Rattle.pair_running.specs.LocalPairEnds.{ended_as}
-use Rattle.pair_running.specs.LocalPairLocal.{ComesTo, ran}
-use Rattle.pair_running.specs.LocalPairOutcomeSeen.{ended_seen}
+use Rattle.stages.specs.Climb.{IsRefused, of_pair}
+use Rattle.stages.specs.Seen.{view_refusal}
+use Rattle.pair_texts.specs.Start.{AreStarted, Texts, names_of}
+use Rattle.pair_running.specs.LocalPairLocal.{IsPairRun}
 use Rattle.pair_running.specs.declared.spawned_pair.outcome.Outcome.{Outcome}
 use Rattle.pair_running.specs.declared.spawned_pair.outcome.Outcome.TheVariants.{Refused, Ran}
 use Rattle.pair_running.specs.SpawnedPairSupervised.{IsSupervised}
 
 -- ---- over every spawner
 
--- Texts with faults are reported, and all stays untouched. Else the peer is served up to an end, whose functions have the program's names,
+-- Texts with faults are refused, and all stays untouched. Else the peer is served up to an end, with the names of the program's functions,
 -- or to why that broke off. Memory may be wanting before that too.
 abbrev pub IsServed : Type 0 → (List Event → List ℕ → Type 0) → (List ℕ → List ℕ → List ℕ → Type 0) → Texts → ℕ → Result Outcome RunFault → Type 0
-IsServed untouched moves breaks t turns (Ok (Refused lines)) = AreLinesOf t lines.items × untouched
-IsServed untouched moves breaks t turns (Ok (Ran end)) = (e : End) × (run : IsSupervised moves breaks t turns (Ok e)) × (ended_seen end ≡ ended_as run.started.tree e)
+IsServed untouched moves breaks t turns (Ok (Refused refusal)) = IsRefused of_pair t (view_refusal refusal) × untouched
+IsServed untouched moves breaks t turns (Ok (Ran end names)) = (run : IsSupervised moves breaks t turns (Ok end)) × (names ≡ names_of run.started.tree)
 IsServed untouched moves breaks t turns (Err LinkFailed) = IsSupervised moves breaks t turns (Err LinkFailed)
 IsServed untouched moves breaks t turns (Err SinkFailed) = IsSupervised moves breaks t turns (Err SinkFailed)
 IsServed untouched moves breaks t turns (Err (BadPeer rule offset)) = IsSupervised moves breaks t turns (Err (BadPeer rule offset))
@@ -42,8 +40,8 @@ pub record IsHonestFor {S : Type 0} (honest : S → (List ℕ → List ℕ) → 
 
 -- Then what the texts come to is written, and it ends so; no rule is broken, and the peer doesn't end before.
 abbrev pub IsExpectedOver : (List ℕ → Type 0) → Texts → ℕ → Result Outcome RunFault → Type 0
-IsExpectedOver writes t turns (Ok (Refused lines)) = AreLinesOf t lines.items
-IsExpectedOver writes t turns (Ok (Ran end)) = (bytes : List ℕ) × ComesTo t turns (ran bytes (ended_seen end)) × writes bytes
+IsExpectedOver writes t turns (Ok (Refused refusal)) = IsRefused of_pair t (view_refusal refusal)
+IsExpectedOver writes t turns (Ok (Ran end names)) = (bytes : List ℕ) × IsPairRun turns t (record { bytes = bytes; names = names; end = end }) × writes bytes
 IsExpectedOver writes t turns (Err LinkFailed) = ⊤
 IsExpectedOver writes t turns (Err SinkFailed) = ⊤
 IsExpectedOver writes t turns (Err (BadPeer rule offset)) = ⊥

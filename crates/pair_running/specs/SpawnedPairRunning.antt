@@ -3,8 +3,8 @@ use Rattle.std.specs.Prelude.{◌≡◌, ℕ}
 use Rattle.boot_fields.specs.Limits.{Spells}
 use Rattle.pt_core.specs.CodeTree.{view_boot}
 use Rattle.monitor_interp.specs.Monitors.{IsMonitor}
-use Rattle.pair_texts.specs.declared.outcome.Pair.{Pair}
-use Rattle.pair_texts.specs.OutcomeSeen.{monitor_in}
+use Rattle.pair_texts.specs.declared.pair.Pair.{Pair}
+use Rattle.pair_texts.specs.Seen.{monitor_in}
 use Rattle.pair_running.specs.LocalPairWhole.{alone}
 use Rattle.pair_running.specs.declared.spawned_pair.running.Begun.{Begun}
 

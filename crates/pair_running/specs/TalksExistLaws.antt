@@ -15,8 +15,7 @@ use Rattle.pair_meaning.specs.Peer.{are_awaited}
 use Rattle.pair_meaning.specs.Streams.{at_end, Talk}
 use Rattle.pair_runner.specs.Sending.{IsSpelled, boot_talk}
 use Rattle.pair_runner.specs.Serves.{Serves}
-use Rattle.pair_texts.specs.OutcomeSeen.{HaveBegun}
-use Rattle.pair_texts.specs.Start.{Texts}
+use Rattle.pair_texts.specs.Start.{HaveBegun, Texts}
 use Rattle.pair_running.specs.HonestTalksLaws.{HostsAre, IsFairPair, IsHonestTalk, expected_of, with_hosts}
 use Rattle.pair_running.specs.TalksExistPeers.{GivesWhatIsSaid}
 

@@ -11,8 +11,7 @@ use Rattle.pair_meaning.specs.Monitors.{Monitor}
 use Rattle.pair_meaning.specs.Streams.{at_end, Talk}
 use Rattle.pair_runner.specs.Sending.{boot_talk}
 use Rattle.pair_runner.specs.Serves.{Serves}
-use Rattle.pair_texts.specs.OutcomeSeen.{HaveBegun}
-use Rattle.pair_texts.specs.Start.{Texts}
+use Rattle.pair_texts.specs.Start.{HaveBegun, Texts}
 use Rattle.pair_running.specs.HonestTalksLaws.{HostsAre, expected_of, with_hosts}
 use Rattle.pair_running.specs.SpawnedPairOutcomeSeen.{IsHonestFor}
 use Rattle.pair_running.specs.TalksExistPlanned.{CameBy, Planned, given_by, is_honest, planned, sent_to}

@@ -6,4 +6,4 @@ mod pair;
 mod telling;
 
 pub use laws::{generated_runs_are_told, generated_texts_have_one_outcome};
-pub use pair::outcome_of;
+pub use pair::run;

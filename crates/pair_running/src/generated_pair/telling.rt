@@ -1,11 +1,10 @@
 // The line that tells of a run.
 ghost use Rattle.std.specs.Prelude.{◌≡◌, ◌++◌, IfOk, OnOk, length};
 ghost use Rattle.std.specs.Fmt.{decimal};
-ghost use Rattle.pair_running.specs.LocalPairOutcomeSeen.{ended_seen};
 ghost use Rattle.pair_running.specs.GeneratedPairTelling.{line_of, told_of};
 
-use crate::local_pair::Ended;
 use itoa::Buffer;
+use pt_base::End;
 use std::alloc::{AllocError, Global};
 
 /// What a program was made from.
@@ -43,12 +42,12 @@ pub(crate) fn told(
     made: Made,
     program: &[u8],
     written: &[u8],
-    end: &Ended,
+    end: &End,
 ) -> Result<Vec<u8>, AllocError>
-    ensures { IfOk result (λ told. told.items ≡ told_of (line_of made.seed made.functions (length program.now) (length written.now)) (ended_seen end.now)) }
+    ensures { IfOk result (λ told. told.items ≡ told_of (line_of made.seed made.functions (length program.now) (length written.now)) end.now) }
 {
     match end {
-        Ended::Exit(_) => line(alloc, made, program, written),
-        Ended::Trapped(..) | Ended::Spent | Ended::Refused { .. } => Ok(Vec::new(alloc)),
+        End::Exit(_) => line(alloc, made, program, written),
+        End::Trapped(..) | End::Spent | End::Refused { .. } => Ok(Vec::new(alloc)),
     }
 }

@@ -1,6 +1,5 @@
 // What holds of all texts.
 ghost use Rattle.pair_running.specs.LocalPairLocal.{CutsAreEnough, OutcomeIsOne};
-ghost use Rattle.pair_running.specs.LocalPairSeen.{SeenIsOne};
 
 /// Texts come to one outcome at most within a budget of turns, but for the ways by which faults of flows
 /// show how a secret comes there. It does nothing.
@@ -12,10 +11,4 @@ pub fn texts_have_one_outcome()
 /// does nothing.
 pub fn first_bytes_are_enough()
     ensures { CutsAreEnough }
-{}
-
-/// Of texts out's bytes, the report and the status of a run of both halves within a budget of turns are one at
-/// most, but for the ways that faults of flows show. It does nothing.
-pub fn seen_is_one()
-    ensures { SeenIsOne }
 {}

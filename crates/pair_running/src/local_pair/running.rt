@@ -10,11 +10,12 @@ ghost use Rattle.pair_texts.specs.Start.{Texts};
 ghost use Rattle.pt_core.specs.CodeTree.{view_boot, view_monitor};
 ghost use Rattle.pt_core.specs.WellFormed.{is_well_formed_boot, is_well_formed_monitor};
 ghost use Rattle.pair_laws.specs.BegunPairsLaws.{HostsServe};
-ghost use Rattle.pair_running.specs.LocalPairOutcomeSeen.{IsOutcome, IsWholeRun};
+ghost use Rattle.pair_running.specs.LocalPairLocal.{IsPairRun};
+ghost use Rattle.pair_running.specs.LocalPairOutcomeSeen.{view_ran};
 ghost use Rattle.pair_running.specs.LocalPairRunning.{AreTextsOf, BeginsAs, HaveRun, StandAt};
+ghost use Rattle.pair_running.specs.LocalPairWhole.{HasWhole};
 
-use crate::local_pair::ending::ended;
-use crate::local_pair::outcome::Outcome;
+use crate::local_pair::ran::Ran;
 use crate::local_pair::sink::Written;
 use crate::memory_talks::{talks_are_whole, talks_end};
 use boots::boot_bytes;
@@ -103,17 +104,17 @@ fn converse<C: Chooser>(
 }
 
 /// What a pair comes to that begins: what is written, and how it ends.
-pub(crate) fn run<C: Chooser>(
+pub(crate) fn run_pair<C: Chooser>(
     alloc: Global,
     pair: Pair,
     turns: u32,
     window: u32,
     chooser: &mut C,
-) -> Result<Outcome, AllocError>
+) -> Result<Ran, AllocError>
     requires window { 1 ≤ window }
     requires texts { (t : Texts) × AreTextsOf pair turns t }
-    ensures outcome { (t : Texts) → AreTextsOf pair turns t → IfOk result (IsOutcome t turns) }
-    ensures whole { (t : Texts) → AreTextsOf pair turns t → IfOk result (IsWholeRun t turns window (C.answers chooser.old) (C.answers chooser.new)) }
+    ensures outcome { (t : Texts) → AreTextsOf pair turns t → IfOk result (λ r. IsPairRun turns t (view_ran r)) }
+    ensures whole { (t : Texts) → AreTextsOf pair turns t → IfOk result (λ r. HasWhole t turns window (C.answers chooser.old) (C.answers chooser.new) r.written.items) }
 {
     begun_boots_are_well_formed();
     begun_monitors_are_well_formed();
@@ -126,6 +127,9 @@ pub(crate) fn run<C: Chooser>(
         names,
     } = begin(alloc, pair, turns)?;
     let (written, end) = converse(alloc, &boot, slave, monitor, window, chooser)?;
-    let end = ended(alloc, end, names.as_slice())?;
-    Ok(Outcome::Ran { written, end })
+    Ok(Ran {
+        written,
+        end,
+        names,
+    })
 }

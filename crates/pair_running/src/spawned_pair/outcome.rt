@@ -1,11 +1,16 @@
 // What the texts of a pair come to.
-use crate::local_pair::Ended;
+use pt_base::{Bytes, End, Listed};
+use stages::Refusal;
 
 /// What the texts come to.
 #[derive(Drop)]
 pub enum Outcome {
-    /// A stage has faults: the lines that report them.
-    Refused(Vec<u8>),
+    /// A stage refuses the texts.
+    Refused(Refusal),
     /// The pair ran, and ended so.
-    Ran(Ended),
+    Ran {
+        end: End,
+        /// The name of each function of the program, by its number: of these the end tells.
+        names: Listed<Bytes>,
+    },
 }

@@ -23,7 +23,6 @@ use crate::honest_talks::{
     begun_monitors_are_well_formed, begun_monitors_hosts_serve, begun_pairs_are_fair,
     honest_talks_are_expected,
 };
-use crate::local_pair::ended;
 use crate::spawned_pair::outcome::Outcome;
 use boots::boot_bytes;
 use honest_link::Witnessed;
@@ -79,8 +78,8 @@ fn start_peer<S: Witnessed, K: Sink>(
     Ok(end)
 }
 
-/// What a pair comes to that begins: its peer is started and supervised, and the end has the functions' names.
-pub(crate) fn run<S: Witnessed, K: Sink>(
+/// What a pair comes to that begins: its peer is started and supervised.
+pub(crate) fn run_pair<S: Witnessed, K: Sink>(
     alloc: Global,
     pair: Pair,
     turns: u32,
@@ -108,6 +107,5 @@ pub(crate) fn run<S: Witnessed, K: Sink>(
         names,
     } = begin(alloc, pair, turns)?;
     let end = start_peer(alloc, monitor, &boot, spawner, out)?;
-    let shown = ended(alloc, end, names.as_slice())?;
-    Ok(Outcome::Ran(shown))
+    Ok(Outcome::Ran { end, names })
 }

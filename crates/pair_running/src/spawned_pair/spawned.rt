@@ -4,21 +4,22 @@ ghost use Rattle.honest_link.specs.Came.{Started};
 ghost use Rattle.pt_base.specs.Faults.{HasCause};
 ghost use Rattle.pair_runner.specs.Faults.{FirstFault};
 ghost use Rattle.pair_runner.specs.Sending.{Breaks, Moves};
-ghost use Rattle.pair_texts.specs.OutcomeSeen.{texts_with};
+ghost use Rattle.pair_texts.specs.Seen.{texts_with};
 ghost use Rattle.pair_running.specs.SpawnedPairOutcomeSeen.{IsExpectedOver, IsHonestFor, IsServed};
 ghost use Rattle.pair_running.specs.SpawnedPairSupervised.{AreUntouched};
 
 use crate::spawned_pair::outcome::Outcome;
-use crate::spawned_pair::running::run;
+use crate::spawned_pair::running::run_pair;
 use honest_link::Witnessed;
 use pair_runner::RunFault;
-use pair_texts::Beside;
+use pair_texts::{Beside, begin};
 use pt_base::{Sink, Watch};
+use stages::Stop;
 use std::alloc::Global;
 use std::thread::Threads;
 use wire::are_bytes;
 
-/// What a program comes to with these texts beside it: the lines of the first stage's faults that has one, or how its monitor ends, which
+/// What a program comes to with these texts beside it: the refusal of the first stage that has a fault, or how its monitor ends, which
 /// serves a peer that is started, once, and sent the boot. What is written goes to `out` as it comes. Where the peer is honest, what is written and
 /// the end are what is expected of the program. The watch is told of each function that has a body, as its edges are made and as it is
 /// lowered.
@@ -29,7 +30,7 @@ use wire::are_bytes;
 /// the peer can't be started, and `SinkFailed` come only where the count of faults rose; after these two, and after `Memory`, a first part
 /// was sent and written. Of the calls of the spawner and of `out` one at most fails, and none where there is an outcome, memory is wanting
 /// or the peer is to blame.
-pub fn outcome_of<R: Threads + Sync, S: Witnessed, K: Sink, W: Watch>(
+pub fn run<R: Threads + Sync, S: Witnessed, K: Sink, W: Watch>(
     rt: &R,
     alloc: Global,
     program: &[u8],
@@ -48,8 +49,9 @@ pub fn outcome_of<R: Threads + Sync, S: Witnessed, K: Sink, W: Watch>(
     ensures first { FirstFault (S.faults spawner.old) (S.faults spawner.new) (K.faults out.old) (K.faults out.new) result }
 {
     are_bytes(beside.input);
-    match pair_texts::outcome_of(rt, alloc, program, beside, watch)? {
-        pair_texts::Outcome::Refused(lines) => Ok(Outcome::Refused(lines)),
-        pair_texts::Outcome::Begins(pair) => run(alloc, pair, beside.turns, spawner, out),
+    match begin(rt, alloc, program, beside, watch) {
+        Ok(pair) => run_pair(alloc, pair, beside.turns, spawner, out),
+        Err(Stop::Refused(refusal)) => Ok(Outcome::Refused(refusal)),
+        Err(Stop::Memory) => Err(RunFault::Memory),
     }
 }
