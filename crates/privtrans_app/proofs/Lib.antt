@@ -1,24 +1,20 @@
 mod CallLemmas
-pub mod CauseLemmas
-pub mod CheckLemmas
-pub mod CompleteLemmas
-pub mod ExplainLemmas
-mod GeneratedLemmas
-pub mod InterleavingLemmas
-pub mod LocalLemmas
-mod OneStatus
-pub mod OrigLemmas
-pub mod ProcessLemmas
-pub mod ReadingLemmas
-pub mod SlaveLemmas
+mod ComesLemmas
+mod CompleteLemmas
+mod Cuts
+mod Decoding
+mod DifferingLemmas
+mod ExistingLemmas
+mod GivenLemmas
+mod HeldLemmas
+mod PlainLemmas
+mod ProcessLemmas
+mod ReadingLemmas
+mod SeenLemmas
+mod ShowingLemmas
+mod SlaveLemmas
 mod SplitLemmas
-mod TopLemmas
-mod WholeLemmas
+mod Statuses
+mod ToldLemmas
 mod ToldOrders
-pub mod ToldCommands
-pub mod ToldExplained
-mod ToldPairs
-pub mod ToldExplainCommands
-mod ToldPictures
-mod ToldOutlines
-pub mod ToldFindings
+mod TurnLemmas

@@ -1,19 +1,13 @@
 -- Files that are read one after the other.
-use Rattle.std.proofs.Common.{◌≤◌, ◌⊎◌, ℕ, List, Option, Some, None, refl, sym, ◌∙◌, inl, inr, arith}
+use Rattle.std.proofs.Common.{◌≤◌, ◌∙◌, ◌⊎◌, ℕ, List, Option, Some, None, refl, sym, inl, inr, arith}
 use Rattle.pt_base.specs.Faults.{Rose}
 use Rattle.pt_base.specs.Files.{Files, SameFiles, GivesFirst, Lacks}
-use Rattle.privtrans_app.specs.Ending.{Ending, help, version, exit, accepted, split, worked, usage, missing, read_fault, write_fault, faults, drawn, trapped, refused, spent, link_fault, bad_peer, peer_ended, memory}
-use Rattle.privtrans_app.specs.Held.{IsHeld}
+use Rattle.privtrans_app.specs.Ending.{Ending, told, usage, missing, read_fault, write_fault, link_fault, bad_peer, peer_ended, memory}
 use Rattle.privtrans_app.specs.Reading.{IsReadRefusal}
 
 pub same_refl : (a : Option Files) → SameFiles a a
 same_refl None = tt
 same_refl (Some f) = λ name. refl
-
--- a file that gave something is held
-pub gives_held : (a : Option Files) (name : List ℕ) (n : ℕ) (bytes : List ℕ) → GivesFirst a name n bytes → IsHeld a name
-gives_held None name n bytes gives = tt
-gives_held (Some f) name n bytes gives = (gives.0, gives.1)
 
 pub same_trans : (a b c : Option Files) → SameFiles a b → SameFiles b c → SameFiles a c
 same_trans None b c x y = tt
@@ -38,12 +32,7 @@ lacks_since (Some f) (Some g) name same lacks = sym (same name) ∙ lacks
 
 -- why a file wasn't read, told from before others were read
 pub refusal_since : (a b : Option Files) (name : List ℕ) (r0 r1 r2 : ℕ) (e : Ending) → SameFiles a b → r0 ≤ r1 → r1 ≤ r2 → IsReadRefusal name b r1 r2 e → IsReadRefusal name a r0 r2 e
-refusal_since a b name r0 r1 r2 help same x y is = absurd is
-refusal_since a b name r0 r1 r2 version same x y is = absurd is
-refusal_since a b name r0 r1 r2 (exit s) same x y is = absurd is
-refusal_since a b name r0 r1 r2 accepted same x y is = absurd is
-refusal_since a b name r0 r1 r2 split same x y is = absurd is
-refusal_since a b name r0 r1 r2 worked same x y is = absurd is
+refusal_since a b name r0 r1 r2 (told report status) same x y is = absurd is
 refusal_since a b name r0 r1 r2 usage same x y is = absurd is
 refusal_since a b name r0 r1 r2 (missing n) same x y is = (is.0, either is.1)
   where
@@ -52,12 +41,7 @@ refusal_since a b name r0 r1 r2 (missing n) same x y is = (is.0, either is.1)
     either (inr rose) = inr (rose_since r0 r1 r2 x y rose)
 refusal_since a b name r0 r1 r2 (read_fault n) same x y is = (is.0, rose_since r0 r1 r2 x y is.1)
 refusal_since a b name r0 r1 r2 write_fault same x y is = absurd is
-refusal_since a b name r0 r1 r2 (faults lines) same x y is = absurd is
-refusal_since a b name r0 r1 r2 (drawn lines) same x y is = absurd is
-refusal_since a b name r0 r1 r2 (trapped trap span) same x y is = absurd is
-refusal_since a b name r0 r1 r2 (refused call function state) same x y is = absurd is
-refusal_since a b name r0 r1 r2 spent same x y is = absurd is
 refusal_since a b name r0 r1 r2 link_fault same x y is = absurd is
 refusal_since a b name r0 r1 r2 (bad_peer rule offset) same x y is = absurd is
 refusal_since a b name r0 r1 r2 peer_ended same x y is = absurd is
-refusal_since a b name r0 r1 r2 memory same x y is = is
+refusal_since a b name r0 r1 r2 memory same x y is = tt

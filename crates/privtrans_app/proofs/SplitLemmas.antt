@@ -1,32 +1,24 @@
 -- What the steps of a split come to together.
-use Rattle.std.proofs.Common.{◌≡◌, ℕ, List, Option, Some, None, ◌∙◌, subst, inl, inr}
+use Rattle.std.proofs.Common.{◌≡◌, ◌∙◌, ◌⊎◌, ℕ, List, [], ◌∷◌, Option, Some, None, refl, subst, inl, inr}
+use Rattle.std.specs.Io.KnownBytes.{Appends}
 use Rattle.pt_base.specs.Faults.{Rose}
-use Rattle.pt_base.specs.Files.{Files, SameFiles, SameOthers, GivesFirst}
-use Rattle.flow_check.specs.Checked.{IsRefused}
-use Rattle.flow_check.specs.OutcomeSeen.{AreLinesOf}
-use Rattle.program_split.specs.Split.{refused, split as split_in, IsSplit}
-use Rattle.program_split.proofs.Cuts.{cut_whole}
-use Rattle.privtrans_app.specs.Ending as endings
-use Rattle.privtrans_app.specs.Ending.{Ending, help, version, exit, accepted, split, worked, usage, missing, read_fault, write_fault, faults, drawn, trapped, spent, link_fault, bad_peer, peer_ended, memory}
-use Rattle.privtrans_app.specs.SplitRun.{Names, Splits, LeavesAt, ComesTo}
-use Rattle.privtrans_app.specs.SplitWriting.{AreWritten, Stopped}
+use Rattle.pt_base.specs.Files.{Files, SameFiles, SameOthers}
+use Rattle.front_end.specs.FaultLinesSeen.{faulty}
+use Rattle.stages.specs.Climb.{IsRefused, Refusal, flows}
+use Rattle.refusal_lines.specs.Lines.{lines_of}
+use Rattle.program_split.specs.Split.{IsSplit}
+use Rattle.privtrans_app.specs.Comes.{ComesAlone}
+use Rattle.privtrans_app.specs.Ending.{Ending, told, usage, missing, read_fault, write_fault, link_fault, bad_peer, peer_ended, memory}
+use Rattle.privtrans_app.specs.Gives.{halved, program_in}
+use Rattle.privtrans_app.specs.Outside.{Outside}
+use Rattle.privtrans_app.specs.SplitRun.{AreWritten, LeavesAt, SameBut, StopsWriting}
+use Rattle.privtrans_app.specs.Words.{files_of}
+use Rattle.privtrans_app.specs.WordsSeen.{split_seen}
+use Rattle.privtrans_app.specs.declared.words.SplitWords.{SplitWords}
+use Rattle.privtrans_app.proofs.Cuts.{gives_whole, halves_whole}
+use Rattle.privtrans_app.proofs.HeldLemmas.{Whole}
 
--- ---- texts
-
--- the text of which these are the first bytes has the halves that they have
-halves_whole : (names : Names) (a : Option Files) (cut slave monitor : List ℕ) → GivesFirst a names.program 1048577 cut → IsSplit cut slave monitor → Splits names a slave monitor
-halves_whole names None cut slave monitor first is = (cut, tt, is)
-halves_whole names (Some files) cut slave monitor first is =
-    (first.0, first.1, cut_whole first.0 (split_in slave monitor) (subst (λ (text : List ℕ). IsSplit text slave monitor) first.2 is))
-
--- a text with faults
-pub faults_come : (names : Names) (a b : Option Files) (cut lines : List ℕ) (reads reads' writes : ℕ) → GivesFirst a names.program 1048577 cut → AreLinesOf cut lines → SameFiles a b
-    → ComesTo names a b reads reads' writes writes (faults lines)
-faults_come names None b cut lines reads reads' writes first are same = ((cut, tt, (are.refusal, are.is, are.lines_are)), same)
-faults_come names (Some files) b cut lines reads reads' writes first are same =
-    ((first.0, first.1, (are.refusal, cut_whole first.0 (refused are.refusal) (subst (λ (text : List ℕ). IsRefused text are.refusal) first.2 are.is), are.lines_are)), same)
-
--- ---- writing
+-- ---- files that stayed as they were
 
 others_since : (a b c : Option Files) (name : List ℕ) → SameFiles a b → SameOthers b c name → SameOthers a c name
 others_since None b c name x y = tt
@@ -39,31 +31,87 @@ leaves_since None b c name text same leaves = tt
 leaves_since (Some f) None c name text same leaves = absurd same
 leaves_since (Some f) (Some g) c name text same leaves = leaves
 
-stopped_since : (names : Names) (a b c : Option Files) (slave : List ℕ) → SameFiles a b → Stopped names b c slave → Stopped names a c slave
-stopped_since names a b c slave same (inl is) = inl (others_since a b c names.slave same is)
-stopped_since names a b c slave same (inr is) = inr (leaves_since a b c names.slave slave same is)
+touched_since : (a b c : Option Files) (name text : List ℕ) → SameFiles a b → SameOthers b c name ⊎ LeavesAt b c name text → SameOthers a c name ⊎ LeavesAt a c name text
+touched_since a b c name text same (inl is) = inl (others_since a b c name same is)
+touched_since a b c name text same (inr is) = inr (leaves_since a b c name text same is)
 
--- the halves of a text, and what writing them came to
-pub halves_come : (names : Names) (a b c : Option Files) (cut slave monitor : List ℕ) (reads reads' w0 w1 w2 : ℕ) (e : Ending) → GivesFirst a names.program 1048577 cut → IsSplit cut slave monitor → SameFiles a b
-    → w1 ≡ w0 → AreWritten names b c w1 w2 slave monitor e → ComesTo names a c reads reads' w0 w2 e
-halves_come names a b c cut slave monitor reads reads' w0 w1 w2 help first has same w is = is
-halves_come names a b c cut slave monitor reads reads' w0 w1 w2 version first has same w is = is
-halves_come names a b c cut slave monitor reads reads' w0 w1 w2 (exit s) first has same w is = is
-halves_come names a b c cut slave monitor reads reads' w0 w1 w2 accepted first has same w is = is
-halves_come names a b c cut slave monitor reads reads' w0 w1 w2 split first has same w is =
-    (slave, monitor, halves_whole names a cut slave monitor first has, leaves_since a b c names.slave slave same is.0, leaves_since a b c names.monitor monitor same is.1)
-halves_come names a b c cut slave monitor reads reads' w0 w1 w2 worked first has same w is = is
-halves_come names a b c cut slave monitor reads reads' w0 w1 w2 usage first has same w is = is
-halves_come names a b c cut slave monitor reads reads' w0 w1 w2 (missing n) first has same w is = absurd is
-halves_come names a b c cut slave monitor reads reads' w0 w1 w2 (read_fault n) first has same w is = absurd is
-halves_come names a b c cut slave monitor reads reads' w0 w1 w2 write_fault first has same w is =
-    (subst (λ (n : ℕ). Rose n w2) w is.0, (slave, monitor, halves_whole names a cut slave monitor first has, stopped_since names a b c slave same is.1))
-halves_come names a b c cut slave monitor reads reads' w0 w1 w2 (faults lines) first has same w is = absurd is
-halves_come names a b c cut slave monitor reads reads' w0 w1 w2 (drawn lines) first has same w is = is
-halves_come names a b c cut slave monitor reads reads' w0 w1 w2 (trapped trap span) first has same w is = is
-halves_come names a b c cut slave monitor reads reads' w0 w1 w2 (endings.refused call function state) first has same w is = absurd is
-halves_come names a b c cut slave monitor reads reads' w0 w1 w2 spent first has same w is = is
-halves_come names a b c cut slave monitor reads reads' w0 w1 w2 link_fault first has same w is = is
-halves_come names a b c cut slave monitor reads reads' w0 w1 w2 (bad_peer rule offset) first has same w is = is
-halves_come names a b c cut slave monitor reads reads' w0 w1 w2 peer_ended first has same w is = is
-halves_come names a b c cut slave monitor reads reads' w0 w1 w2 memory first has same w is = inr (slave, monitor, halves_whole names a cut slave monitor first has, stopped_since names a b c slave same is)
+pub but_since : (a b c : Option Files) (slave monitor : List ℕ) → SameFiles a b → SameBut b c slave monitor → SameBut a c slave monitor
+but_since None b c slave monitor x y = tt
+but_since (Some f) None c slave monitor x y = absurd x
+but_since (Some f) (Some g) None slave monitor x y = absurd y
+but_since (Some f) (Some g) (Some h) slave monitor x y = λ other m n. y other m n ∙ x other
+
+-- files that stayed stayed but for two
+pub same_but : (a b : Option Files) (slave monitor : List ℕ) → SameFiles a b → SameBut a b slave monitor
+same_but None b slave monitor same = tt
+same_but (Some f) None slave monitor same = absurd same
+same_but (Some f) (Some g) slave monitor same = λ other m n. same other
+
+-- ---- what a split comes to
+
+module _ (words : SplitWords) (b a : Outside) (cut : List (List ℕ)) (w : Whole b.folder.files (files_of (split_seen words)) cut) (nothing : Appends b.out.taken a.out.taken []) where
+  -- of a text with faults
+  pub faults_come : (r : Refusal) → IsRefused (flows ∷ []) (program_in cut) r → SameFiles b.folder.files a.folder.files → ComesAlone (Unit {0}) (split_seen words) b a (told (lines_of r) 5)
+  faults_come r stops stay = inl (record {
+    own = refl;
+    texts = w.texts;
+    held = w.held;
+    seen = faulty (lines_of r);
+    gives = gives_whole (split_seen words) w.texts cut (faulty (lines_of r)) w.cuts (inl (r, lines_of r, stops, refl, refl));
+    out = nothing;
+    quiet = λ quiet. tt;
+    report_is = refl;
+    status_is = refl;
+    leaves = inl (refl, stay);
+  })
+
+  module _ (mid : Option Files) (slave_text monitor_text : List ℕ) (w0 w1 w2 : ℕ) (has : IsSplit (program_in cut) (record { slave = slave_text; monitor = monitor_text })) (stay : SameFiles b.folder.files mid) (same : w1 ≡ w0)
+      (before : w0 ≡ b.folder.writes) (after : w2 ≡ a.folder.writes) where
+    stops : SameOthers mid a.folder.files words.slave.now ⊎ LeavesAt mid a.folder.files words.slave.now slave_text → StopsWriting (split_seen words) b.folder.files a.folder.files
+    stops touched = record {
+      program = words.program.now;
+      to_slave = words.slave.now;
+      to_monitor = words.monitor.now;
+      is = refl;
+      texts = w.texts;
+      held = w.held;
+      slave_text = slave_text;
+      monitor_text = monitor_text;
+      halves = halves_whole w.texts cut slave_text monitor_text w.cuts has;
+      touched = touched_since b.folder.files mid a.folder.files words.slave.now slave_text stay touched;
+    }
+
+    rose : Rose w1 w2 → Rose b.folder.writes a.folder.writes
+    rose r = subst (λ (n : ℕ). Rose b.folder.writes n) after (subst (λ (n : ℕ). Rose n w2) (same ∙ before) r)
+
+    -- of a text with halves, and what writing them came to
+    pub halves_come : (e : Ending) → AreWritten words mid a.folder.files w1 w2 slave_text monitor_text e → ComesAlone (Unit {0}) (split_seen words) b a e
+    halves_come (told report status) is = inl (record {
+      own = refl;
+      texts = w.texts;
+      held = w.held;
+      seen = halved (record { slave = slave_text; monitor = monitor_text });
+      gives = inr (record { slave = slave_text; monitor = monitor_text }, halves_whole w.texts cut slave_text monitor_text w.cuts has, refl);
+      out = nothing;
+      quiet = λ quiet. tt;
+      report_is = is.0;
+      status_is = is.1;
+      leaves = inr (
+        refl,
+        record {
+          slave_text = slave_text;
+          monitor_text = monitor_text;
+          halves = halves_whole w.texts cut slave_text monitor_text w.cuts has;
+          slave_left = leaves_since b.folder.files mid a.folder.files words.slave.now slave_text stay is.2;
+          monitor_left = leaves_since b.folder.files mid a.folder.files words.monitor.now monitor_text stay is.3;
+        },
+      );
+    })
+    halves_come usage is = absurd is
+    halves_come (missing name) is = absurd is
+    halves_come (read_fault name) is = absurd is
+    halves_come write_fault is = inr (rose is.0, stops is.1)
+    halves_come link_fault is = absurd is
+    halves_come (bad_peer rule offset) is = absurd is
+    halves_come peer_ended is = absurd is
+    halves_come memory is = inr (inr (inl (stops is)))

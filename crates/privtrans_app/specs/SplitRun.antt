@@ -1,71 +1,91 @@
--- What a split comes to: when each ending comes, and what the files hold then.
-use Rattle.std.specs.Prelude.{◌≡◌, ◌≢◌, ◌⊎◌, ℕ, List, ⊤, Option, Some, None}
+-- What a split leaves in its files.
+use Rattle.std.specs.Prelude.{◌≡◌, ◌≢◌, ◌⊎◌, ℕ, List, ⊤, Option, Some, None, codes}
 use Rattle.pt_base.specs.Faults.{Rose}
-use Rattle.pt_base.specs.Files.{Files, SameFiles, SameOthers, HoldsAt, Lacks}
-use Rattle.flow_check.specs.Checked.{lines_of}
-use Rattle.program_split.specs.Split as halves
-use Rattle.program_split.specs.Split.{Outcome, refused, split as split_in, IsSplit as HasHalves}
-use Rattle.privtrans_app.specs.Ending as e
-use Rattle.privtrans_app.specs.Ending.{Ending}
-
--- The names of the files of a split.
-pub record Names : Type 0 where
-  pub program : List ℕ
-  pub slave : List ℕ
-  pub monitor : List ℕ
+use Rattle.pt_base.specs.Files.{Files, SameFiles, SameOthers, HoldsAt}
+use Rattle.front_end.specs.FaultLinesSeen.{Seen}
+use Rattle.stages.specs.Climb.{alone}
+use Rattle.program_split.specs.Split.{IsSplit}
+use Rattle.privtrans_app.specs.Ending.{Ending, told, usage, missing, read_fault, write_fault, link_fault, bad_peer, peer_ended, memory}
+use Rattle.privtrans_app.specs.Gives.{text_at}
+use Rattle.privtrans_app.specs.Held.{AreHeld}
+use Rattle.privtrans_app.specs.Words.{Command, help, version, check, explain, outline, picture, explain_pair, orig, local, run, split, slave, gen, files_of}
+use Rattle.privtrans_app.specs.declared.words.SplitWords.{SplitWords}
 
 -- told files but these two stay as they are
-abbrev pub SameBut : Option Files → Option Files → Names → Type 0
-SameBut None new names = ⊤
-SameBut (Some old) None names = ⊥
-SameBut (Some old) (Some new) names = (other : List ℕ) → other ≢ names.slave → other ≢ names.monitor → new other ≡ old other
-
--- the program's file holds a text with these halves
-abbrev pub Splits : Names → Option Files → List ℕ → List ℕ → Type 0
-Splits names files slave monitor = (text : List ℕ) × HoldsAt files names.program text × HasHalves text slave monitor
+abbrev pub SameBut : Option Files → Option Files → List ℕ → List ℕ → Type 0
+SameBut None new to_slave to_monitor = ⊤
+SameBut (Some old) None to_slave to_monitor = ⊥
+SameBut (Some old) (Some new) to_slave to_monitor = (other : List ℕ) → other ≢ to_slave → other ≢ to_monitor → new other ≡ old other
 
 -- the file holds these bytes then, where the folder told its files before
 abbrev pub LeavesAt : Option Files → Option Files → List ℕ → List ℕ → Type 0
 LeavesAt None files' name bytes = ⊤
 LeavesAt (Some files) files' name bytes = HoldsAt files' name bytes
 
--- both files hold the halves
-abbrev pub Writes : Names → Option Files → Option Files → Type 0
-Writes names files files' = (slave : List ℕ) × (monitor : List ℕ) × Splits names files slave monitor × LeavesAt files files' names.slave slave × LeavesAt files files' names.monitor monitor
+-- both files hold the halves of this text
+pub record AreLeft (text to_slave to_monitor : List ℕ) (files files' : Option Files) : Type 0 where
+  pub slave_text : List ℕ
+  pub monitor_text : List ℕ
+  pub halves : IsSplit (alone text) (record { slave = slave_text; monitor = monitor_text })
+  pub slave_left : LeavesAt files files' to_slave slave_text
+  pub monitor_left : LeavesAt files files' to_monitor monitor_text
 
--- writing broke off: at the slave's file, and nothing else was touched, or at the monitor's, and the slave's
--- is written
-abbrev pub StopsWriting : Names → Option Files → Option Files → Type 0
-StopsWriting names files files' = (slave : List ℕ) × (monitor : List ℕ) × Splits names files slave monitor × (SameOthers files files' names.slave ⊎ LeavesAt files files' names.slave slave)
+-- what is seen of a split of this text leaves the files so: where a stage has faults as they were, and else both hold the halves
+abbrev pub LeavesHalves : List ℕ → List ℕ → List ℕ → Option Files → Option Files → Seen → Type 0
+LeavesHalves text to_slave to_monitor files files' s =
+    ((s.status ≡ 5) × SameFiles files files') ⊎ ((s.status ≡ 0) × AreLeft text to_slave to_monitor files files')
 
--- the program's file holds a text of which a stage has faults, and these lines report them
-abbrev pub HasFaults : Names → Option Files → List ℕ → Type 0
-HasFaults names files lines = (text : List ℕ) × HoldsAt files names.program text × ((refusal : _) × halves.ComesTo text (refused refusal) × (lines ≡ lines_of refusal))
+-- what is seen of a command whose files hold these texts leaves the files so; a command that is no split leaves them as they were
+abbrev pub Leaves : Command → List (List ℕ) → Option Files → Option Files → Seen → Type 0
+Leaves help texts files files' s = SameFiles files files'
+Leaves version texts files files' s = SameFiles files files'
+Leaves (check program) texts files files' s = SameFiles files files'
+Leaves (explain program) texts files files' s = SameFiles files files'
+Leaves (outline program) texts files files' s = SameFiles files files'
+Leaves (picture program) texts files files' s = SameFiles files files'
+Leaves (explain_pair program host policy) texts files files' s = SameFiles files files'
+Leaves (orig program host input turns) texts files files' s = SameFiles files files'
+Leaves (local program host policy input turns window) texts files files' s = SameFiles files files'
+Leaves (run program host policy input turns) texts files files' s = SameFiles files files'
+Leaves (split program to_slave to_monitor) texts files files' s = LeavesHalves (text_at texts 0) to_slave to_monitor files files' s
+Leaves slave texts files files' s = SameFiles files files'
+Leaves (gen seed count) texts files files' s = SameFiles files files'
 
--- When a split comes to each ending: `reads` and `writes` are the folder's counts of failed reads and writes,
--- before and after.
-abbrev pub ComesTo : Names → Option Files → Option Files → ℕ → ℕ → ℕ → ℕ → Ending → Type 0
-ComesTo names files files' reads reads' writes writes' e.help = ⊥
-ComesTo names files files' reads reads' writes writes' e.version = ⊥
-ComesTo names files files' reads reads' writes writes' (e.exit status) = ⊥
-ComesTo names files files' reads reads' writes writes' e.accepted = ⊥
-ComesTo names files files' reads reads' writes writes' e.split = Writes names files files'
-ComesTo names files files' reads reads' writes writes' e.worked = ⊥
-ComesTo names files files' reads reads' writes writes' e.usage = ⊥
-ComesTo names files files' reads reads' writes writes' (e.missing name) = (name ≡ names.program) × (Lacks files name ⊎ Rose reads reads') × SameFiles files files'
-ComesTo names files files' reads reads' writes writes' (e.read_fault name) = (name ≡ names.program) × Rose reads reads' × SameFiles files files'
-ComesTo names files files' reads reads' writes writes' e.write_fault = Rose writes writes' × StopsWriting names files files'
-ComesTo names files files' reads reads' writes writes' (e.faults lines) = HasFaults names files lines × SameFiles files files'
-ComesTo names files files' reads reads' writes writes' (e.drawn lines) = ⊥
-ComesTo names files files' reads reads' writes writes' (e.trapped trap span) = ⊥
-ComesTo names files files' reads reads' writes writes' (e.refused call function state) = ⊥
-ComesTo names files files' reads reads' writes writes' e.spent = ⊥
-ComesTo names files files' reads reads' writes writes' e.link_fault = ⊥
-ComesTo names files files' reads reads' writes writes' (e.bad_peer rule offset) = ⊥
-ComesTo names files files' reads reads' writes writes' e.peer_ended = ⊥
-ComesTo names files files' reads reads' writes writes' e.memory = SameFiles files files' ⊎ StopsWriting names files files'
+-- Writing the halves broke off: at the slave's file, and nothing else was touched, or at the monitor's, and the slave's is written.
+pub record StopsWriting (c : Command) (files files' : Option Files) : Type 0 where
+  pub program : List ℕ
+  pub to_slave : List ℕ
+  pub to_monitor : List ℕ
+  pub is : c ≡ split program to_slave to_monitor
+  pub texts : List (List ℕ)
+  pub held : AreHeld files (files_of c) texts
+  pub slave_text : List ℕ
+  pub monitor_text : List ℕ
+  pub halves : IsSplit (alone (text_at texts 0)) (record { slave = slave_text; monitor = monitor_text })
+  pub touched : SameOthers files files' to_slave ⊎ LeavesAt files files' to_slave slave_text
 
--- the ending that is due to what a text comes to
-abbrev pub ending_of : Outcome → Ending
-ending_of (refused refusal) = e.faults (lines_of refusal)
-ending_of (split_in slave monitor) = e.split
+-- why a half wasn't written
+abbrev pub IsUnwritten : ℕ → ℕ → Ending → Type 0
+IsUnwritten writes writes' (told report status) = ⊥
+IsUnwritten writes writes' usage = ⊥
+IsUnwritten writes writes' (missing name) = ⊥
+IsUnwritten writes writes' (read_fault name) = ⊥
+IsUnwritten writes writes' write_fault = Rose writes writes'
+IsUnwritten writes writes' link_fault = ⊥
+IsUnwritten writes writes' (bad_peer rule offset) = ⊥
+IsUnwritten writes writes' peer_ended = ⊥
+IsUnwritten writes writes' memory = ⊤
+
+-- both halves were written, or writing one of them was refused
+abbrev pub AreWritten : SplitWords → Option Files → Option Files → ℕ → ℕ → List ℕ → List ℕ → Ending → Type 0
+AreWritten words files files' writes writes' slave_text monitor_text (told report status) =
+    (report ≡ codes "split\n") × (status ≡ 0) × LeavesAt files files' words.slave.now slave_text × LeavesAt files files' words.monitor.now monitor_text
+AreWritten words files files' writes writes' slave_text monitor_text usage = ⊥
+AreWritten words files files' writes writes' slave_text monitor_text (missing name) = ⊥
+AreWritten words files files' writes writes' slave_text monitor_text (read_fault name) = ⊥
+AreWritten words files files' writes writes' slave_text monitor_text write_fault =
+    Rose writes writes' × (SameOthers files files' words.slave.now ⊎ LeavesAt files files' words.slave.now slave_text)
+AreWritten words files files' writes writes' slave_text monitor_text link_fault = ⊥
+AreWritten words files files' writes writes' slave_text monitor_text (bad_peer rule offset) = ⊥
+AreWritten words files files' writes writes' slave_text monitor_text peer_ended = ⊥
+AreWritten words files files' writes writes' slave_text monitor_text memory = SameOthers files files' words.slave.now ⊎ LeavesAt files files' words.slave.now slave_text

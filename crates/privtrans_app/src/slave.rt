@@ -1,22 +1,23 @@
 // The slave, as the process that a run starts: what it is to run comes over the link to its parent.
-ghost use Rattle.std.specs.Prelude.{◌≡◌, ◌≤◌, false};
-ghost use Rattle.privtrans_app.specs.Ending.{is_idle, status_of};
+ghost use Rattle.std.specs.Prelude.{◌≡◌, ◌≤◌};
+ghost use Rattle.pt_base.specs.Faults.{Rose};
+ghost use Rattle.privtrans_app.specs.Ending.{link_fault, status_of};
 ghost use Rattle.privtrans_app.specs.EndingSeen.{ending_seen};
+ghost use Rattle.privtrans_app.specs.Interleaving.{IsOfNoRun};
 ghost use Rattle.privtrans_app.specs.Once.{FailsOnce};
 ghost use Rattle.privtrans_app.specs.SlaveRun.{IsWorkOver, ending_of};
 
-use crate::ending::Ending;
+use crate::ending::{Ending, Report};
 use pt_base::{LinkFault, Spawner};
 use slave_runner::{WorkFault, work};
 use std::alloc::Global;
 
 // How the slave's work ends the call.
 fn ended_by<'a>(answer: Result<(), WorkFault>) -> Ending<'a>
-    ensures ending { ending_seen result ≡ ending_of answer }
-    ensures busy { is_idle (ending_seen result) ≡ false }
+    ensures { ending_seen result ≡ ending_of answer }
 {
     match answer {
-        Ok(()) => Ending::Worked,
+        Ok(()) => Ending::Told(Report::Nothing),
         Err(WorkFault::LinkFailed) => Ending::LinkFault,
         Err(WorkFault::BadPeer { rule, offset }) => Ending::BadPeer { rule, offset },
         Err(WorkFault::PeerEnded) => Ending::PeerEnded,
@@ -26,8 +27,9 @@ fn ended_by<'a>(answer: Result<(), WorkFault>) -> Ending<'a>
 
 /// Does the slave's work over the link that the spawner inherits.
 pub(crate) fn slave<'a, S: Spawner>(alloc: Global, spawner: &mut S) -> Ending<'a>
-    ensures ending { IsWorkOver S.inherits S.came S.sent S.given spawner.old spawner.new (S.faults spawner.old) (S.faults spawner.new) (ending_seen result) }
-    ensures busy { is_idle (ending_seen result) ≡ false }
+    ensures ending { IsWorkOver S.inherits S.came S.sent S.given spawner.old spawner.new (ending_seen result) }
+    ensures link { ending_seen result ≡ link_fault → Rose (S.faults spawner.old) (S.faults spawner.new) }
+    ensures busy { IsOfNoRun (status_of (ending_seen result)) → ⊥ }
     ensures later { S.faults spawner.old ≤ S.faults spawner.new }
     ensures once { FailsOnce (S.faults spawner.old) (S.faults spawner.new) (status_of (ending_seen result)) }
 {

@@ -1,16 +1,8 @@
-// What a command tells is what its texts come to, or memory was wanting; and each text has an explanation, a picture
-// and an outline, or faults in their place, but for programs of too many slots.
+// What holds of all commands: words ask for one, and what its texts come to is told.
 
-mod explanations;
-mod findings;
 mod laws;
 
-pub use explanations::{
-    explanations_are_told, pair_explanations_are_told, pairs_are_explained, texts_are_explained,
-    too_many_slots_have_no_explanation,
+pub use laws::{
+    commands_are_seen, commands_are_told, one_status_is_seen, one_thing_is_seen,
+    too_many_slots_are_unseen, want_is_not_seen, words_ask_for_one_command,
 };
-pub use findings::{
-    checks_have_endings, outlines_are_told, pictures_are_told, texts_are_drawn, texts_are_outlined,
-    too_many_slots_have_no_outline, too_many_slots_have_no_picture,
-};
-pub use laws::{checks_are_told, runs_are_told, splits_are_told};

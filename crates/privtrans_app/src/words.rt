@@ -1,9 +1,12 @@
 // The words of a call, read by hand.
-ghost use Rattle.std.specs.Prelude.{◌≡◌, ◌≤◌, ◌≢◌, ◌∷◌, [], ℕ, MatchOption, IsTrue, false, map, codes};
+ghost use Rattle.std.specs.Prelude.{◌≡◌, ◌≤◌, ◌≢◌, ◌∷◌, [], ℕ, IfOk, MatchOption, IsTrue, false, map, codes};
 ghost use Rattle.std.specs.Fmt.{decimal};
-ghost use Rattle.privtrans_app.specs.Words.{IsForm, IsNoForm, IsOutward, IsPlain};
+ghost use Rattle.privtrans_app.specs.Forms.{AreNotGenerated, AreNotLocal, AreNotOne, AreNotOrig, AreNotRun, AreNotSplit, ExplainNothing, IsNoWord};
+ghost use Rattle.privtrans_app.specs.Words.{IsUsage, Says, files_of};
+ghost use Rattle.privtrans_app.specs.WordsSeen.{command_seen, plain_seen};
 
 use itoa::Buffer;
+use std::alloc::{AllocError, Global};
 
 /// The names of a pair's files.
 #[derive(Clone, Copy)]
@@ -46,26 +49,6 @@ pub(crate) struct SplitWords<'a> {
     pub monitor: &'a str,
 }
 
-/// In which manner findings are told.
-#[derive(Clone, Copy)]
-pub(crate) enum Manner {
-    /// By a line each.
-    Lines,
-    /// In blocks, for people.
-    Blocks,
-    /// The outline of an accepted program.
-    Outline,
-    /// A picture of the flows.
-    Picture,
-}
-
-/// The words of a check: the name of the program, and how its findings are told.
-#[derive(Clone, Copy)]
-pub(crate) struct CheckWords<'a> {
-    pub program: &'a str,
-    pub manner: Manner,
-}
-
 /// The words of a pair that is explained.
 #[derive(Clone, Copy)]
 pub(crate) struct ExplainWords<'a> {
@@ -81,24 +64,52 @@ pub(crate) struct GeneratedWords {
     pub count: u32,
 }
 
-/// What plain words ask for.
+/// A command that shows what comes of its files' texts alone: it writes no file and reaches no other process.
 #[derive(Clone, Copy)]
-pub(crate) enum Form<'a> {
-    Help,
-    Version,
-    Local(LocalWords<'a>),
+pub(crate) enum Plain<'a> {
+    Check { program: &'a str },
+    Explain { program: &'a str },
+    Outline { program: &'a str },
+    Picture { program: &'a str },
+    ExplainPair(ExplainWords<'a>),
     Orig(OrigWords<'a>),
-    Check(CheckWords<'a>),
-    Explain(ExplainWords<'a>),
+    Local(LocalWords<'a>),
+    Gen(GeneratedWords),
 }
 
-/// What the words ask for, where that writes files, reaches another process or runs a program of the tool's own.
+/// What the words ask for.
 #[derive(Clone, Copy)]
-pub(crate) enum Outward<'a> {
-    Split(SplitWords<'a>),
+pub(crate) enum Command<'a> {
+    Help,
+    Version,
+    Show(Plain<'a>),
     Run(RunWords<'a>),
+    Split(SplitWords<'a>),
     Slave,
-    Generated(GeneratedWords),
+}
+
+/// The names of the files that a command reads, in this order.
+pub(crate) fn names_of<'a>(alloc: Global, plain: &Plain<'a>) -> Result<Vec<&'a str>, AllocError>
+    ensures { IfOk result (λ v. map (λ n. n.now) v.items ≡ files_of (plain_seen plain.now)) }
+{
+    match *plain {
+        Plain::Check { program }
+        | Plain::Explain { program }
+        | Plain::Outline { program }
+        | Plain::Picture { program } => Vec::from_slice(alloc, &[program]),
+        Plain::ExplainPair(words) => {
+            Vec::from_slice(alloc, &[words.program, words.host, words.policy])
+        }
+        Plain::Orig(words) => Vec::from_slice(alloc, &[words.program, words.host, words.input]),
+        Plain::Local(words) => {
+            let names = words.names;
+            Vec::from_slice(
+                alloc,
+                &[names.program, names.host, names.policy, names.input],
+            )
+        }
+        Plain::Gen(_) => Ok(Vec::new(alloc)),
+    }
 }
 
 // The number of a word in digits without a leading zero, if it is at most `most`.
@@ -123,22 +134,24 @@ fn is_spelling(n: u32, word: &str) -> bool
     buffer.format(n) == word
 }
 
-/// What plain words ask for; none where they are of no such form.
-pub(crate) fn form_of<'a>(words: &[&'a str]) -> Option<Form<'a>>
-    ensures { MatchOption result (IsNoForm (map (λ w. w.now) words.now)) (IsForm (map (λ w. w.now) words.now)) }
+/// What the words ask for; none where they ask for nothing.
+pub(crate) fn command_of<'a>(words: &[&'a str]) -> Option<Command<'a>>
+    ensures { MatchOption result (IsUsage (map (λ w. w.now) words.now)) (λ c. Says (map (λ w. w.now) words.now) (command_seen c)) }
 {
     match words {
         [] => None,
-        [word, rest @ ..] => form_after(word, rest),
+        [word, rest @ ..] => command_after(word, rest),
     }
 }
 
 // What a word and those after it ask for.
-fn form_after<'a>(word: &str, rest: &[&'a str]) -> Option<Form<'a>>
-    ensures { MatchOption result (IsNoForm (word.now ∷ map (λ w. w.now) rest.now)) (IsForm (word.now ∷ map (λ w. w.now) rest.now)) }
+fn command_after<'a>(word: &str, rest: &[&'a str]) -> Option<Command<'a>>
+    ensures { MatchOption result (IsUsage (word.now ∷ map (λ w. w.now) rest.now)) (λ c. Says (word.now ∷ map (λ w. w.now) rest.now) (command_seen c)) }
 {
     if rest.is_empty() {
         one_word(word)
+    } else if word == "run" {
+        run_words(rest)
     } else if word == "local" {
         local_words(rest)
     } else if word == "orig" {
@@ -151,14 +164,133 @@ fn form_after<'a>(word: &str, rest: &[&'a str]) -> Option<Form<'a>>
         outline_words(rest)
     } else if word == "picture" {
         picture_words(rest)
+    } else if word == "split" {
+        split_words(rest)
+    } else if word == "gen" {
+        generated_words(rest)
     } else {
         None
     }
 }
 
+// What one word asks for.
+fn one_word<'a>(word: &str) -> Option<Command<'a>>
+    ensures { MatchOption result (IsNoWord word.now) (λ c. Says (word.now ∷ []) (command_seen c)) }
+{
+    if word == "--help" || word == "-h" {
+        Some(Command::Help)
+    } else if word == "--version" {
+        Some(Command::Version)
+    } else if word == "slave" {
+        Some(Command::Slave)
+    } else {
+        None
+    }
+}
+
+// The one name that these words are.
+fn one_name<'a>(words: &[&'a str]) -> Option<&'a str>
+    ensures { MatchOption result (AreNotOne (map (λ w. w.now) words.now)) (λ name. map (λ w. w.now) words.now ≡ name.now ∷ []) }
+{
+    let [name, words @ ..] = words else {
+        return None;
+    };
+    if words.is_empty() { Some(*name) } else { None }
+}
+
+// The words after `check`.
+fn check_words<'a>(words: &[&'a str]) -> Option<Command<'a>>
+    ensures { MatchOption result (AreNotOne (map (λ w. w.now) words.now)) (λ c. Says (codes "check" ∷ map (λ w. w.now) words.now) (command_seen c)) }
+{
+    let program = one_name(words)?;
+    Some(Command::Show(Plain::Check { program }))
+}
+
+// The words after `outline`.
+fn outline_words<'a>(words: &[&'a str]) -> Option<Command<'a>>
+    ensures { MatchOption result (AreNotOne (map (λ w. w.now) words.now)) (λ c. Says (codes "outline" ∷ map (λ w. w.now) words.now) (command_seen c)) }
+{
+    let program = one_name(words)?;
+    Some(Command::Show(Plain::Outline { program }))
+}
+
+// The words after `picture`.
+fn picture_words<'a>(words: &[&'a str]) -> Option<Command<'a>>
+    ensures { MatchOption result (AreNotOne (map (λ w. w.now) words.now)) (λ c. Says (codes "picture" ∷ map (λ w. w.now) words.now) (command_seen c)) }
+{
+    let program = one_name(words)?;
+    Some(Command::Show(Plain::Picture { program }))
+}
+
+// The words after `explain`: the name of a program alone, or of a pair's files too.
+fn explain_words<'a>(words: &[&'a str]) -> Option<Command<'a>>
+    ensures { MatchOption result (ExplainNothing (map (λ w. w.now) words.now)) (λ c. Says (codes "explain" ∷ map (λ w. w.now) words.now) (command_seen c)) }
+{
+    let [program, words @ ..] = words else {
+        return None;
+    };
+    let [host, words @ ..] = words else {
+        return Some(Command::Show(Plain::Explain { program }));
+    };
+    let [policy, words @ ..] = words else {
+        return None;
+    };
+    if words.is_empty() {
+        Some(Command::Show(Plain::ExplainPair(ExplainWords {
+            program,
+            host,
+            policy,
+        })))
+    } else {
+        None
+    }
+}
+
+// The words after `orig`.
+fn orig_words<'a>(words: &[&'a str]) -> Option<Command<'a>>
+    ensures { MatchOption result (AreNotOrig (codes "orig" ∷ map (λ w. w.now) words.now)) (λ c. Says (codes "orig" ∷ map (λ w. w.now) words.now) (command_seen c)) }
+{
+    let [program, words @ ..] = words else {
+        return None;
+    };
+    let [host, words @ ..] = words else {
+        return None;
+    };
+    let [input, words @ ..] = words else {
+        return None;
+    };
+    let [turns, words @ ..] = words else {
+        return None;
+    };
+    if words.is_empty() {
+        orig_form(program, host, input, turns)
+    } else {
+        None
+    }
+}
+
+fn orig_form<'a>(
+    program: &'a str,
+    host: &'a str,
+    input: &'a str,
+    turns: &str,
+) -> Option<Command<'a>>
+    ensures { MatchOption result
+        (AreNotOrig (codes "orig" ∷ program.now ∷ host.now ∷ input.now ∷ turns.now ∷ []))
+        (λ c. Says (codes "orig" ∷ program.now ∷ host.now ∷ input.now ∷ turns.now ∷ []) (command_seen c)) }
+{
+    let turns = number(turns, u32::MAX)?;
+    Some(Command::Show(Plain::Orig(OrigWords {
+        program,
+        host,
+        input,
+        turns,
+    })))
+}
+
 // The words after `local`.
-fn local_words<'a>(words: &[&'a str]) -> Option<Form<'a>>
-    ensures { MatchOption result (IsNoForm (codes "local" ∷ map (λ w. w.now) words.now)) (IsForm (codes "local" ∷ map (λ w. w.now) words.now)) }
+fn local_words<'a>(words: &[&'a str]) -> Option<Command<'a>>
+    ensures { MatchOption result (AreNotLocal (codes "local" ∷ map (λ w. w.now) words.now)) (λ c. Says (codes "local" ∷ map (λ w. w.now) words.now) (command_seen c)) }
 {
     let [program, words @ ..] = words else {
         return None;
@@ -185,119 +317,6 @@ fn local_words<'a>(words: &[&'a str]) -> Option<Form<'a>>
     }
 }
 
-// The words after `orig`.
-fn orig_words<'a>(words: &[&'a str]) -> Option<Form<'a>>
-    ensures { MatchOption result (IsNoForm (codes "orig" ∷ map (λ w. w.now) words.now)) (IsForm (codes "orig" ∷ map (λ w. w.now) words.now)) }
-{
-    let [program, words @ ..] = words else {
-        return None;
-    };
-    let [host, words @ ..] = words else {
-        return None;
-    };
-    let [input, words @ ..] = words else {
-        return None;
-    };
-    let [turns, words @ ..] = words else {
-        return None;
-    };
-    if words.is_empty() {
-        orig_form(program, host, input, turns)
-    } else {
-        None
-    }
-}
-
-// The words after `check`.
-fn check_words<'a>(words: &[&'a str]) -> Option<Form<'a>>
-    ensures { MatchOption result (IsNoForm (codes "check" ∷ map (λ w. w.now) words.now)) (IsForm (codes "check" ∷ map (λ w. w.now) words.now)) }
-{
-    let [program, words @ ..] = words else {
-        return None;
-    };
-    if words.is_empty() {
-        Some(Form::Check(CheckWords {
-            program,
-            manner: Manner::Lines,
-        }))
-    } else {
-        None
-    }
-}
-
-// The words after `explain`: the name of a program alone, or of a pair's files too.
-fn explain_words<'a>(words: &[&'a str]) -> Option<Form<'a>>
-    ensures { MatchOption result (IsNoForm (codes "explain" ∷ map (λ w. w.now) words.now)) (IsForm (codes "explain" ∷ map (λ w. w.now) words.now)) }
-{
-    let [program, words @ ..] = words else {
-        return None;
-    };
-    let [host, words @ ..] = words else {
-        return Some(Form::Check(CheckWords {
-            program,
-            manner: Manner::Blocks,
-        }));
-    };
-    let [policy, words @ ..] = words else {
-        return None;
-    };
-    if words.is_empty() {
-        Some(Form::Explain(ExplainWords {
-            program,
-            host,
-            policy,
-        }))
-    } else {
-        None
-    }
-}
-
-// The words after `outline`.
-fn outline_words<'a>(words: &[&'a str]) -> Option<Form<'a>>
-    ensures { MatchOption result (IsNoForm (codes "outline" ∷ map (λ w. w.now) words.now)) (IsForm (codes "outline" ∷ map (λ w. w.now) words.now)) }
-{
-    let [program, words @ ..] = words else {
-        return None;
-    };
-    if words.is_empty() {
-        Some(Form::Check(CheckWords {
-            program,
-            manner: Manner::Outline,
-        }))
-    } else {
-        None
-    }
-}
-
-// The words after `picture`.
-fn picture_words<'a>(words: &[&'a str]) -> Option<Form<'a>>
-    ensures { MatchOption result (IsNoForm (codes "picture" ∷ map (λ w. w.now) words.now)) (IsForm (codes "picture" ∷ map (λ w. w.now) words.now)) }
-{
-    let [program, words @ ..] = words else {
-        return None;
-    };
-    if words.is_empty() {
-        Some(Form::Check(CheckWords {
-            program,
-            manner: Manner::Picture,
-        }))
-    } else {
-        None
-    }
-}
-
-fn one_word<'a>(word: &str) -> Option<Form<'a>>
-    ensures { MatchOption result (IsNoForm (word.now ∷ [])) (IsForm (word.now ∷ [])) }
-{
-    if word == "--help" || word == "-h" {
-        Some(Form::Help)
-    } else if word == "--version" {
-        Some(Form::Version)
-    } else {
-        None
-    }
-}
-
 fn local_form<'a>(
     program: &'a str,
     host: &'a str,
@@ -305,10 +324,10 @@ fn local_form<'a>(
     input: &'a str,
     turns: &str,
     window: &str,
-) -> Option<Form<'a>>
+) -> Option<Command<'a>>
     ensures { MatchOption result
-        (IsNoForm (codes "local" ∷ program.now ∷ host.now ∷ policy.now ∷ input.now ∷ turns.now ∷ window.now ∷ []))
-        (IsForm (codes "local" ∷ program.now ∷ host.now ∷ policy.now ∷ input.now ∷ turns.now ∷ window.now ∷ [])) }
+        (AreNotLocal (codes "local" ∷ program.now ∷ host.now ∷ policy.now ∷ input.now ∷ turns.now ∷ window.now ∷ []))
+        (λ c. Says (codes "local" ∷ program.now ∷ host.now ∷ policy.now ∷ input.now ∷ turns.now ∷ window.now ∷ []) (command_seen c)) }
 {
     let turns = number(turns, u32::MAX)?;
     let window = number(window, 1024)?;
@@ -321,94 +340,16 @@ fn local_form<'a>(
         policy,
         input,
     };
-    Some(Form::Local(LocalWords {
+    Some(Command::Show(Plain::Local(LocalWords {
         names,
         turns,
         window,
-    }))
-}
-
-fn orig_form<'a>(program: &'a str, host: &'a str, input: &'a str, turns: &str) -> Option<Form<'a>>
-    ensures { MatchOption result
-        (IsNoForm (codes "orig" ∷ program.now ∷ host.now ∷ input.now ∷ turns.now ∷ []))
-        (IsForm (codes "orig" ∷ program.now ∷ host.now ∷ input.now ∷ turns.now ∷ [])) }
-{
-    let turns = number(turns, u32::MAX)?;
-    Some(Form::Orig(OrigWords {
-        program,
-        host,
-        input,
-        turns,
-    }))
-}
-
-/// What the words ask for where they aren't plain.
-pub(crate) fn outward_of<'a>(words: &[&'a str]) -> Option<Outward<'a>>
-    ensures { MatchOption result (IsPlain (map (λ w. w.now) words.now)) (IsOutward (map (λ w. w.now) words.now)) }
-{
-    match words {
-        [] => None,
-        [word, rest @ ..] => outward_after(word, rest),
-    }
-}
-
-// The same of a word and those after it.
-fn outward_after<'a>(word: &str, rest: &[&'a str]) -> Option<Outward<'a>>
-    ensures { MatchOption result (IsPlain (word.now ∷ map (λ w. w.now) rest.now)) (IsOutward (word.now ∷ map (λ w. w.now) rest.now)) }
-{
-    if word == "split" {
-        split_words(rest)
-    } else if word == "run" {
-        run_words(rest)
-    } else if word == "slave" {
-        slave_words(rest)
-    } else if word == "gen" {
-        generated_words(rest)
-    } else {
-        None
-    }
-}
-
-// The words after `split`.
-fn split_words<'a>(words: &[&'a str]) -> Option<Outward<'a>>
-    ensures { MatchOption result (IsPlain (codes "split" ∷ map (λ w. w.now) words.now)) (IsOutward (codes "split" ∷ map (λ w. w.now) words.now)) }
-{
-    let [program, words @ ..] = words else {
-        return None;
-    };
-    let [slave, words @ ..] = words else {
-        return None;
-    };
-    let [monitor, words @ ..] = words else {
-        return None;
-    };
-    if words.is_empty() {
-        apart(program, slave, monitor)
-    } else {
-        None
-    }
-}
-
-// The names of a split, where no two are equal.
-fn apart<'a>(program: &'a str, slave: &'a str, monitor: &'a str) -> Option<Outward<'a>>
-    ensures { MatchOption result
-        (IsPlain (codes "split" ∷ program.now ∷ slave.now ∷ monitor.now ∷ []))
-        (IsOutward (codes "split" ∷ program.now ∷ slave.now ∷ monitor.now ∷ [])) }
-{
-    if program == slave || program == monitor || slave == monitor {
-        None
-    } else {
-        Some(Outward::Split(SplitWords {
-            program,
-            slave,
-            monitor,
-        }))
-    }
+    })))
 }
 
 // The words after `run`.
-fn run_words<'a>(words: &[&'a str]) -> Option<Outward<'a>>
-    ensures { MatchOption result (IsPlain (codes "run" ∷ map (λ w. w.now) words.now)) (IsOutward (codes "run" ∷ map (λ w. w.now) words.now)) }
+fn run_words<'a>(words: &[&'a str]) -> Option<Command<'a>>
+    ensures { MatchOption result (AreNotRun (codes "run" ∷ map (λ w. w.now) words.now)) (λ c. Says (codes "run" ∷ map (λ w. w.now) words.now) (command_seen c)) }
 {
     let [program, words @ ..] = words else {
         return None;
@@ -438,10 +379,10 @@ fn run_form<'a>(
     policy: &'a str,
     input: &'a str,
     turns: &str,
-) -> Option<Outward<'a>>
+) -> Option<Command<'a>>
     ensures { MatchOption result
-        (IsPlain (codes "run" ∷ program.now ∷ host.now ∷ policy.now ∷ input.now ∷ turns.now ∷ []))
-        (IsOutward (codes "run" ∷ program.now ∷ host.now ∷ policy.now ∷ input.now ∷ turns.now ∷ [])) }
+        (AreNotRun (codes "run" ∷ program.now ∷ host.now ∷ policy.now ∷ input.now ∷ turns.now ∷ []))
+        (λ c. Says (codes "run" ∷ program.now ∷ host.now ∷ policy.now ∷ input.now ∷ turns.now ∷ []) (command_seen c)) }
 {
     let turns = number(turns, u32::MAX)?;
     let names = PairNames {
@@ -450,23 +391,49 @@ fn run_form<'a>(
         policy,
         input,
     };
-    Some(Outward::Run(RunWords { names, turns }))
+    Some(Command::Run(RunWords { names, turns }))
 }
 
-// The words after `slave`, of which there are none.
-fn slave_words<'a>(words: &[&'a str]) -> Option<Outward<'a>>
-    ensures { MatchOption result (IsPlain (codes "slave" ∷ map (λ w. w.now) words.now)) (IsOutward (codes "slave" ∷ map (λ w. w.now) words.now)) }
+// The words after `split`.
+fn split_words<'a>(words: &[&'a str]) -> Option<Command<'a>>
+    ensures { MatchOption result (AreNotSplit (codes "split" ∷ map (λ w. w.now) words.now)) (λ c. Says (codes "split" ∷ map (λ w. w.now) words.now) (command_seen c)) }
 {
+    let [program, words @ ..] = words else {
+        return None;
+    };
+    let [slave, words @ ..] = words else {
+        return None;
+    };
+    let [monitor, words @ ..] = words else {
+        return None;
+    };
     if words.is_empty() {
-        Some(Outward::Slave)
+        apart(program, slave, monitor)
     } else {
         None
     }
 }
 
+// The names of a split, where no two are equal.
+fn apart<'a>(program: &'a str, slave: &'a str, monitor: &'a str) -> Option<Command<'a>>
+    ensures { MatchOption result
+        (AreNotSplit (codes "split" ∷ program.now ∷ slave.now ∷ monitor.now ∷ []))
+        (λ c. Says (codes "split" ∷ program.now ∷ slave.now ∷ monitor.now ∷ []) (command_seen c)) }
+{
+    if program == slave || program == monitor || slave == monitor {
+        None
+    } else {
+        Some(Command::Split(SplitWords {
+            program,
+            slave,
+            monitor,
+        }))
+    }
+}
+
 // The words after `gen`.
-fn generated_words<'a>(words: &[&'a str]) -> Option<Outward<'a>>
-    ensures { MatchOption result (IsPlain (codes "gen" ∷ map (λ w. w.now) words.now)) (IsOutward (codes "gen" ∷ map (λ w. w.now) words.now)) }
+fn generated_words<'a>(words: &[&'a str]) -> Option<Command<'a>>
+    ensures { MatchOption result (AreNotGenerated (codes "gen" ∷ map (λ w. w.now) words.now)) (λ c. Says (codes "gen" ∷ map (λ w. w.now) words.now) (command_seen c)) }
 {
     let [seed, words @ ..] = words else {
         return None;
@@ -481,15 +448,15 @@ fn generated_words<'a>(words: &[&'a str]) -> Option<Outward<'a>>
     }
 }
 
-fn generated_form<'a>(seed: &str, count: &str) -> Option<Outward<'a>>
+fn generated_form<'a>(seed: &str, count: &str) -> Option<Command<'a>>
     ensures { MatchOption result
-        (IsPlain (codes "gen" ∷ seed.now ∷ count.now ∷ []))
-        (IsOutward (codes "gen" ∷ seed.now ∷ count.now ∷ [])) }
+        (AreNotGenerated (codes "gen" ∷ seed.now ∷ count.now ∷ []))
+        (λ c. Says (codes "gen" ∷ seed.now ∷ count.now ∷ []) (command_seen c)) }
 {
     let seed = number(seed, 2147483647)?;
     let count = number(count, 2000)?;
     if count == 0 {
         return None;
     }
-    Some(Outward::Generated(GeneratedWords { seed, count }))
+    Some(Command::Show(Plain::Gen(GeneratedWords { seed, count })))
 }

@@ -1,90 +1,52 @@
-use Rattle.std.proofs.Common.{map}
+use Rattle.std.proofs.Common.{◌≡◌, map}
+use Rattle.honest_link.specs.Came.{Started}
+use Rattle.pair_runner.specs.Sending.{Breaks, Moves}
+use Rattle.pair_running.specs.SpawnedPairOutcomeSeen.{IsHonestFor}
+use Rattle.pair_running.specs.SpawnedPairSupervised.{AreUntouched}
 use Rattle.privtrans_app.specs.EndingSeen.{ending_seen}
-use Rattle.privtrans_app.proofs.GeneratedLemmas.{expected_told, run_ends}
-use Rattle.privtrans_app.proofs.InterleavingLemmas.{told_nothing, told_turns}
-use Rattle.privtrans_app.proofs.TopLemmas.{are_kept, by_files, by_form, by_split, generated_tells, tells_what_is_expected, two_tell}
+use Rattle.privtrans_app.specs.Outside.{Outside, SinkTold, folder_told, outside, sink_told}
+use Rattle.privtrans_app.specs.SlaveRun.{IsWorkOver}
+use Rattle.privtrans_app.proofs.CallLemmas.{is_call, told_untouched}
+use Rattle.privtrans_app.proofs.ProcessLemmas.{untouched_keeps}
 use Rattle.privtrans_app.proofs.top.privtrans.Goals as goal
 
-pub returns-clause-form : goal.returns-clause-form
-returns-clause-form g c = λ writes faults.
-    by_form g.S.Spawner.starts g.S.Spawner.inherits g.S.Link.came g.S.Link.honest g.S.Link.sent g.S.Link.given g.K.Sink.taken g.S.Link.faults g.K.Sink.faults c.args.spawner.now c.ended-ending.new.spawner c.args.out.now c.ended-ending.new.out
-    (map (λ w. w.now) c.args.words.now) (g.F.Folder.files c.args.folder.now) (g.F.Folder.files c.ended-ending.new.folder) (g.F.Folder.read_faults c.args.folder.now) (g.F.Folder.read_faults c.ended-ending.new.folder)
-    (g.F.Folder.write_faults c.args.folder.now) (g.F.Folder.write_faults c.ended-ending.new.folder)
-    (g.E.Sink.taken c.args.report.now) (g.E.Sink.taken c.tell.new.sink) (g.E.Sink.faults c.args.report.now) (g.E.Sink.faults c.tell.new.sink) c.tell.result
-    (ending_seen c.ended-ending.result) c.ended-ending.ensures.ending c.tell.ensures.report writes faults
-
-pub returns-clause-complete : goal.returns-clause-complete
-returns-clause-complete g c = λ files told reads writes faults.
-    by_files g.S.Spawner.starts g.S.Spawner.inherits g.S.Link.came g.S.Link.honest g.S.Link.sent g.S.Link.given g.K.Sink.taken g.S.Link.faults g.K.Sink.faults c.args.spawner.now c.ended-ending.new.spawner c.args.out.now c.ended-ending.new.out
-    (map (λ w. w.now) c.args.words.now) (g.F.Folder.files c.args.folder.now) (g.F.Folder.files c.ended-ending.new.folder) (g.F.Folder.read_faults c.args.folder.now) (g.F.Folder.read_faults c.ended-ending.new.folder)
-    (g.F.Folder.write_faults c.args.folder.now) (g.F.Folder.write_faults c.ended-ending.new.folder)
-    (g.E.Sink.taken c.args.report.now) (g.E.Sink.taken c.tell.new.sink) (g.E.Sink.faults c.args.report.now) (g.E.Sink.faults c.tell.new.sink) c.tell.result
-    files told (ending_seen c.ended-ending.result) c.ended-ending.ensures.ending c.tell.ensures.report reads faults writes
-
-pub returns-clause-split : goal.returns-clause-split
-returns-clause-split g c = λ files told reads fwrites faults.
-    by_split g.S.Spawner.starts g.S.Spawner.inherits g.S.Link.came g.S.Link.honest g.S.Link.sent g.S.Link.given g.K.Sink.taken g.S.Link.faults g.K.Sink.faults c.args.spawner.now c.ended-ending.new.spawner c.args.out.now c.ended-ending.new.out
-    (map (λ w. w.now) c.args.words.now) (g.F.Folder.files c.args.folder.now) (g.F.Folder.files c.ended-ending.new.folder) (g.F.Folder.read_faults c.args.folder.now) (g.F.Folder.read_faults c.ended-ending.new.folder)
-    (g.F.Folder.write_faults c.args.folder.now) (g.F.Folder.write_faults c.ended-ending.new.folder)
-    (g.E.Sink.taken c.args.report.now) (g.E.Sink.taken c.tell.new.sink) (g.E.Sink.faults c.args.report.now) (g.E.Sink.faults c.tell.new.sink) c.tell.result
-    files told (ending_seen c.ended-ending.result) c.ended-ending.ensures.ending c.tell.ensures.report reads faults fwrites
-
-pub returns-clause-whole : goal.returns-clause-whole
-returns-clause-whole g c = λ files told reads fwrites writes faults.
-    are_kept g.S.Spawner.starts g.S.Spawner.inherits g.S.Link.came g.S.Link.honest g.S.Link.sent g.S.Link.given g.K.Sink.taken g.S.Link.faults g.K.Sink.faults c.args.spawner.now c.ended-ending.new.spawner c.args.out.now c.ended-ending.new.out
-    (map (λ w. w.now) c.args.words.now) (g.F.Folder.files c.args.folder.now) (g.F.Folder.files c.ended-ending.new.folder) (g.F.Folder.read_faults c.args.folder.now) (g.F.Folder.read_faults c.ended-ending.new.folder)
-    (g.F.Folder.write_faults c.args.folder.now) (g.F.Folder.write_faults c.ended-ending.new.folder)
-    (g.E.Sink.taken c.args.report.now) (g.E.Sink.taken c.tell.new.sink) (g.E.Sink.faults c.args.report.now) (g.E.Sink.faults c.tell.new.sink) c.tell.result
-    files told (ending_seen c.ended-ending.result) c.ended-ending.ensures.ending c.tell.ensures.report reads faults fwrites writes
-
-pub returns-clause-headline : goal.returns-clause-headline
-returns-clause-headline g c = λ files told reads writes faults t turns window tree e held is.
-    tells_what_is_expected g.S.Spawner.starts g.S.Spawner.inherits g.S.Link.came g.S.Link.honest g.S.Link.sent g.S.Link.given g.K.Sink.taken g.S.Link.faults g.K.Sink.faults c.args.spawner.now c.ended-ending.new.spawner c.args.out.now c.ended-ending.new.out
-    (map (λ w. w.now) c.args.words.now) (g.F.Folder.files c.args.folder.now) (g.F.Folder.files c.ended-ending.new.folder) (g.F.Folder.read_faults c.args.folder.now) (g.F.Folder.read_faults c.ended-ending.new.folder)
-    (g.F.Folder.write_faults c.args.folder.now) (g.F.Folder.write_faults c.ended-ending.new.folder)
-    (g.E.Sink.taken c.args.report.now) (g.E.Sink.taken c.tell.new.sink) (g.E.Sink.faults c.args.report.now) (g.E.Sink.faults c.tell.new.sink) c.tell.result
-    files told (ending_seen c.ended-ending.result) c.ended-ending.ensures.ending c.tell.ensures.report reads faults writes t turns window tree e held is
-
-pub returns-clause-headline_of_two : goal.returns-clause-headline_of_two
-returns-clause-headline_of_two g c = λ files told reads writes faults links t turns tree e held fair is.
-    two_tell g.S.Spawner.starts g.S.Spawner.inherits g.S.Link.came g.S.Link.honest g.S.Link.sent g.S.Link.given g.K.Sink.taken g.S.Link.faults g.K.Sink.faults c.args.spawner.now c.ended-ending.new.spawner c.args.out.now c.ended-ending.new.out
-    (map (λ w. w.now) c.args.words.now) (g.F.Folder.files c.args.folder.now) (g.F.Folder.files c.ended-ending.new.folder) (g.F.Folder.read_faults c.args.folder.now) (g.F.Folder.read_faults c.ended-ending.new.folder)
-    (g.F.Folder.write_faults c.args.folder.now) (g.F.Folder.write_faults c.ended-ending.new.folder)
-    (g.E.Sink.taken c.args.report.now) (g.E.Sink.taken c.tell.new.sink) (g.E.Sink.faults c.args.report.now) (g.E.Sink.faults c.tell.new.sink) c.tell.result
-    files told (ending_seen c.ended-ending.result) c.ended-ending.ensures.ending c.tell.ensures.report reads faults writes links t turns tree e held fair is
-
-pub returns-clause-interleaving : goal.returns-clause-interleaving
-returns-clause-interleaving g c = λ p h q i m w is run.
-    told_turns (map (λ w. w.now) c.args.words.now) (g.F.Folder.files c.args.folder.now) (g.C.Chooser.answers c.args.chooser.now) (g.C.Chooser.answers c.ended-ending.new.chooser)
-    (g.K.Sink.taken c.args.out.now) (g.K.Sink.taken c.ended-ending.new.out) (g.E.Sink.taken c.args.report.now) (g.E.Sink.taken c.tell.new.sink) (g.E.Sink.faults c.args.report.now) (g.E.Sink.faults c.tell.new.sink) c.tell.result
-    (ending_seen c.ended-ending.result) c.tell.ensures.report run (c.ended-ending.ensures.turns p h q i m w is)
-
-pub returns-clause-generated : goal.returns-clause-generated
-returns-clause-generated g c = λ seed count is writes faults.
-    generated_tells g.S.Spawner.starts g.S.Spawner.inherits g.S.Link.came g.S.Link.honest g.S.Link.sent g.S.Link.given g.K.Sink.taken g.S.Link.faults g.K.Sink.faults c.args.spawner.now c.ended-ending.new.spawner c.args.out.now c.ended-ending.new.out
-    (map (λ w. w.now) c.args.words.now) (g.F.Folder.files c.args.folder.now) (g.F.Folder.files c.ended-ending.new.folder) (g.F.Folder.read_faults c.args.folder.now) (g.F.Folder.read_faults c.ended-ending.new.folder)
-    (g.F.Folder.write_faults c.args.folder.now) (g.F.Folder.write_faults c.ended-ending.new.folder)
-    (g.E.Sink.taken c.args.report.now) (g.E.Sink.taken c.tell.new.sink) (g.E.Sink.faults c.args.report.now) (g.E.Sink.faults c.tell.new.sink) c.tell.result
-    seed count is (ending_seen c.ended-ending.result) c.ended-ending.ensures.ending c.tell.ensures.report writes faults
-
-pub returns-clause-generated_run : goal.returns-clause-generated_run
-returns-clause-generated_run g c = λ seed count tree e is writes faults expected.
-    expected_told seed count (g.K.Sink.taken c.args.out.now) (g.K.Sink.taken c.ended-ending.new.out) (g.E.Sink.taken c.args.report.now) (g.E.Sink.taken c.tell.new.sink) c.tell.result
-    tree e c.generated_runs_are_told.ensures.seen expected (returns-clause-generated g c seed count is writes faults)
-
-pub returns-clause-generated_turns : goal.returns-clause-generated_turns
-returns-clause-generated_turns g c = λ seed count is run.
-    c.ended-ending.ensures.generated_turns seed count is
-    (run_ends (g.E.Sink.taken c.args.report.now) (g.E.Sink.taken c.tell.new.sink) (g.E.Sink.faults c.args.report.now) (g.E.Sink.faults c.tell.new.sink) c.tell.result
-    (ending_seen c.ended-ending.result) c.tell.ensures.report run)
+pub returns-clause-call : goal.returns-clause-call
+returns-clause-call g c =
+    let s = c.args.spawner.now in
+    let s' = c.ended-ending.new.spawner in
+    let k = c.args.out.now in
+    let k' = c.ended-ending.new.out in
+    let r : SinkTold = sink_told g.E.Sink.taken g.E.Sink.faults c.args.report.now in
+    let r' : SinkTold = sink_told g.E.Sink.taken g.E.Sink.faults c.tell.new.sink in
+    let b : Outside = outside (folder_told g.F.Folder.files g.F.Folder.read_faults g.F.Folder.failed_reads g.F.Folder.write_faults c.args.folder.now) (sink_told g.K.Sink.taken g.K.Sink.faults k) r
+    (g.S.Link.faults s) (g.C.Chooser.answers c.args.chooser.now) in
+    let a : Outside = outside (folder_told g.F.Folder.files g.F.Folder.read_faults g.F.Folder.failed_reads g.F.Folder.write_faults c.ended-ending.new.folder) (sink_told g.K.Sink.taken g.K.Sink.faults k') r'
+    (g.S.Link.faults s') (g.C.Chooser.answers c.ended-ending.new.chooser) in
+    is_call (AreUntouched s s' k k') (Moves (Started g.S.Spawner.starts g.S.Link.came g.S.Link.honest g.S.Link.sent g.S.Link.given) g.S.Link.sent g.S.Link.given g.K.Sink.taken s s' k k')
+    (Breaks g.S.Link.sent g.S.Link.given g.K.Sink.taken s s' k k') (λ t turns. IsHonestFor g.S.Link.honest g.S.Link.sent g.S.Link.given t turns s)
+    (IsWorkOver g.S.Spawner.inherits g.S.Link.came g.S.Link.sent g.S.Link.given s s') (k' ≡ k) (map (λ w. w.now) c.args.words.now) b a c.tell.result
+    (λ is. untouched_keeps g.K.Sink.taken s s' k k' is) (ending_seen c.ended-ending.result) (c.ended-ending.ensures.ending r r') c.tell.ensures.report
+    (λ never. ((c.ended-ending.ensures.untouched r r').unwritten never).0) (λ d says. c.ended-ending.ensures.turns r r' d says)
+    (record {
+      reads = c.ended-ending.ensures.later.0;
+      failed = c.ended-ending.ensures.failed.later;
+      writes = c.ended-ending.ensures.later.1;
+      out = c.ended-ending.ensures.later.2;
+      report = c.tell.ensures.later;
+      links = c.ended-ending.ensures.later.3;
+    }) c.ended-ending.ensures.once c.ended-ending.ensures.failed c.tell.ensures.once
 
 pub returns-clause-untouched : goal.returns-clause-untouched
 returns-clause-untouched g c =
-    let quiet = told_nothing (g.E.Sink.taken c.args.report.now) (g.E.Sink.taken c.tell.new.sink) (g.E.Sink.faults c.args.report.now) (g.E.Sink.faults c.tell.new.sink) c.tell.result (ending_seen c.ended-ending.result) c.tell.ensures.report in (
-      (λ none. c.ended-ending.ensures.same none),
-      (λ no_run no_split no_process. c.ended-ending.ensures.unread no_run no_split no_process),
-      (λ slave. c.ended-ending.ensures.unwritten slave),
-      (λ no_process no_slave. c.ended-ending.ensures.unlinked no_process no_slave),
-      (λ none made. c.ended-ending.ensures.unasked none made),
-      (λ none. (c.ended-ending.ensures.untaken (quiet none), c.ended-ending.ensures.unreached (quiet none))),
-    )
+    let s = c.args.spawner.now in
+    let s' = c.ended-ending.new.spawner in
+    let k = c.args.out.now in
+    let k' = c.ended-ending.new.out in
+    let r : SinkTold = sink_told g.E.Sink.taken g.E.Sink.faults c.args.report.now in
+    let r' : SinkTold = sink_told g.E.Sink.taken g.E.Sink.faults c.tell.new.sink in
+    let b : Outside = outside (folder_told g.F.Folder.files g.F.Folder.read_faults g.F.Folder.failed_reads g.F.Folder.write_faults c.args.folder.now) (sink_told g.K.Sink.taken g.K.Sink.faults k) r
+    (g.S.Link.faults s) (g.C.Chooser.answers c.args.chooser.now) in
+    let a : Outside = outside (folder_told g.F.Folder.files g.F.Folder.read_faults g.F.Folder.failed_reads g.F.Folder.write_faults c.ended-ending.new.folder) (sink_told g.K.Sink.taken g.K.Sink.faults k') r'
+    (g.S.Link.faults s') (g.C.Chooser.answers c.ended-ending.new.chooser) in
+    told_untouched (c.ended-ending.new.folder ≡ c.args.folder.now) (k' ≡ k) (s' ≡ s) (c.ended-ending.new.chooser ≡ c.args.chooser.now) (map (λ w. w.now) c.args.words.now) b a
+    (ending_seen c.ended-ending.result) c.tell.result c.tell.ensures.report (c.ended-ending.ensures.untouched r r')
