@@ -1,9 +1,13 @@
 // What is explained of texts.
+ghost use Rattle.stages.specs.Seen.{view_refusal};
+ghost use Rattle.pair_explaining.specs.RefusalBlocks.{IsTold};
+
 use crate::shown_lines::push_lines;
-use anyhow::Result;
+use anyhow::{Result, bail};
 use case_rows::{Silent, TextFiles, first_word, spelled};
-use explaining::{Explained, explain};
-use pair_explaining::{FileNames, FileTexts, explain_pair};
+use explaining::explain;
+use pair_explaining::{FileNames, explain_pair, explain_refusal};
+use stages::{GivenTexts, Refusal, Stop};
 use std::alloc::{AllocError, Global};
 use std::thread::Threads;
 
@@ -15,9 +19,18 @@ use std::thread::Threads;
 pub fn explained<R: Threads + Sync>(rt: &R, alloc: Global, row: &str) -> Result<String> {
     let (name, rest) = first_word(row);
     let text = spelled(alloc, rest)?;
+    let names = FileNames {
+        program: name.as_bytes(),
+        host: &[],
+        policy: &[],
+    };
+    let given = GivenTexts {
+        program: text.as_bytes(),
+        host: &[],
+        policy: &[],
+    };
     let mut told = format!(in alloc; "explain {row} =>")?;
-    let explained = explain(rt, alloc, name.as_bytes(), text.as_bytes(), &Silent)?;
-    push_explained(&mut told, &explained)?;
+    push_explained(rt, alloc, &mut told, names, given)?;
     Ok(told)
 }
 
@@ -39,27 +52,63 @@ pub fn pair_explained<R: Threads + Sync>(
         host: host.as_bytes(),
         policy: policy.as_bytes(),
     };
-    let texts = FileTexts {
+    let given = GivenTexts {
         program: files.text(program)?,
         host: files.text(host)?,
         policy: files.text(policy)?,
     };
     let mut told = format!(in alloc; "explain_pair {row} =>")?;
-    let explained = explain_pair(rt, alloc, names, texts, &Silent)?;
-    push_explained(&mut told, &explained)?;
+    push_pair_explained(rt, alloc, &mut told, names, given)?;
     Ok(told)
 }
 
-// Appends a verdict, and the lines that explain it.
-fn push_explained(told: &mut String, explained: &Explained) -> Result<(), AllocError> {
-    match explained {
-        Explained::Refused(report) => {
-            told.push_str(" refused")?;
-            push_lines(told, "  |", report)
-        }
-        Explained::Checked(lines) => {
-            told.push_str(" accepted")?;
-            push_lines(told, "  |", lines)
-        }
+// Appends what is explained of a program alone.
+fn push_explained<R: Threads + Sync>(
+    rt: &R,
+    alloc: Global,
+    told: &mut String,
+    names: FileNames<'_>,
+    given: GivenTexts<'_>,
+) -> Result<()> {
+    match explain(rt, alloc, names.program, given.program, &Silent) {
+        Ok(lines) => Ok(push_accepted(told, &lines)?),
+        Err(Stop::Refused(refusal)) => Ok(push_refused(alloc, told, names, given, &refusal)?),
+        Err(Stop::Memory) => bail!("out of memory"),
     }
+}
+
+// Appends what is explained of a program with its host table and its policy.
+fn push_pair_explained<R: Threads + Sync>(
+    rt: &R,
+    alloc: Global,
+    told: &mut String,
+    names: FileNames<'_>,
+    given: GivenTexts<'_>,
+) -> Result<()> {
+    match explain_pair(rt, alloc, names.program, given, &Silent) {
+        Ok(lines) => Ok(push_accepted(told, &lines)?),
+        Err(Stop::Refused(refusal)) => Ok(push_refused(alloc, told, names, given, &refusal)?),
+        Err(Stop::Memory) => bail!("out of memory"),
+    }
+}
+
+// Appends the lines of what is accepted.
+fn push_accepted(told: &mut String, lines: &[u8]) -> Result<(), AllocError> {
+    told.push_str(" accepted")?;
+    push_lines(told, "  |", lines)
+}
+
+// Appends the blocks that explain a refusal.
+fn push_refused(
+    alloc: Global,
+    told: &mut String,
+    names: FileNames<'_>,
+    given: GivenTexts<'_>,
+    refusal: &Refusal,
+) -> Result<(), AllocError>
+    requires { IsTold (view_refusal refusal.now) }
+{
+    let blocks = explain_refusal(alloc, names, given, refusal)?;
+    told.push_str(" refused")?;
+    push_lines(told, "  |", &blocks)
 }

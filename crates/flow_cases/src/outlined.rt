@@ -1,8 +1,10 @@
 // The outlines of programs.
 use crate::shown_lines::push_lines;
-use anyhow::Result;
+use anyhow::{Result, bail};
 use case_rows::{Silent, spelled};
-use outlining::{Outlined, outline};
+use outlining::outline;
+use refusal_lines::refusal_lines;
+use stages::Stop;
 use std::alloc::Global;
 use std::thread::Threads;
 
@@ -14,15 +16,16 @@ use std::thread::Threads;
 pub fn outlined<R: Threads + Sync>(rt: &R, alloc: Global, row: &str) -> Result<String> {
     let text = spelled(alloc, row)?;
     let mut told = format!(in alloc; "outline {row} =>")?;
-    match outline(rt, alloc, text.as_bytes(), &Silent)? {
-        Outlined::Refused(report) => {
-            told.push_str(" refused")?;
-            push_lines(&mut told, "  !", &report)?;
-        }
-        Outlined::Written(lines) => {
+    match outline(rt, alloc, text.as_bytes(), &Silent) {
+        Ok(lines) => {
             told.push_str(" written")?;
             push_lines(&mut told, "  |", &lines)?;
         }
+        Err(Stop::Refused(refusal)) => {
+            told.push_str(" refused")?;
+            push_lines(&mut told, "  !", &refusal_lines(alloc, refusal)?)?;
+        }
+        Err(Stop::Memory) => bail!("out of memory"),
     }
     Ok(told)
 }

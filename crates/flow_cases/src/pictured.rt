@@ -1,8 +1,10 @@
 // The flows of programs as pictures.
 use crate::shown_lines::push_lines;
-use anyhow::Result;
+use anyhow::{Result, bail};
 use case_rows::{Silent, spelled};
 use flow_picture::{Pictured, picture};
+use refusal_lines::{flow_lines, refusal_lines};
+use stages::Stop;
 use std::alloc::{AllocError, Global};
 use std::thread::Threads;
 
@@ -14,25 +16,25 @@ use std::thread::Threads;
 pub fn pictured<R: Threads + Sync>(rt: &R, alloc: Global, row: &str) -> Result<String> {
     let text = spelled(alloc, row)?;
     let mut told = format!(in alloc; "picture {row} =>")?;
-    let pictured = picture(rt, alloc, text.as_bytes(), &Silent)?;
-    push_pictured(&mut told, &pictured)?;
+    match picture(rt, alloc, text.as_bytes(), &Silent) {
+        Ok(pictured) => push_pictured(alloc, &mut told, &pictured)?,
+        Err(Stop::Refused(refusal)) => {
+            told.push_str(" refused")?;
+            push_lines(&mut told, "  !", &refusal_lines(alloc, refusal)?)?;
+        }
+        Err(Stop::Memory) => bail!("out of memory"),
+    }
     Ok(told)
 }
 
-fn push_pictured(told: &mut String, pictured: &Pictured) -> Result<(), AllocError> {
-    match pictured {
-        Pictured::Refused(report) => {
-            told.push_str(" refused")?;
-            push_lines(told, "  !", report)
-        }
-        Pictured::Faulty { picture, report } => {
-            told.push_str(" faulty")?;
-            push_lines(told, "  !", report)?;
-            push_lines(told, "  |", picture)
-        }
-        Pictured::Drawn(picture) => {
-            told.push_str(" drawn")?;
-            push_lines(told, "  |", picture)
-        }
+// Appends the lines of the faults of flows, if there are any, and the picture.
+fn push_pictured(alloc: Global, told: &mut String, pictured: &Pictured) -> Result<(), AllocError> {
+    let faults = pictured.faults.as_slice();
+    if faults.is_empty() {
+        told.push_str(" drawn")?;
+    } else {
+        told.push_str(" faulty")?;
+        push_lines(told, "  !", &flow_lines(alloc, faults)?)?;
     }
+    push_lines(told, "  |", &pictured.picture)
 }

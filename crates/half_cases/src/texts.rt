@@ -2,7 +2,9 @@
 use anyhow::{Context, Result, bail};
 use case_rows::{Silent, spelled};
 use front_end::{FrontError, read_program};
-use program_split::{Outcome, outcome_of};
+use program_split::split;
+use refusal_lines::refusal_lines;
+use stages::Stop;
 use std::alloc::Global;
 use std::thread::Threads;
 
@@ -21,14 +23,16 @@ pub fn texts<R: Threads + Sync>(
     let text = spelled(alloc, row)?;
     let word = if with_texts { "texts" } else { "readings" };
     let mut told = format!(in alloc; "{word} {row}\n")?;
-    match outcome_of(rt, alloc, text.as_bytes(), &Silent)? {
-        Outcome::Refused(lines) => {
+    match split(rt, alloc, text.as_bytes(), &Silent) {
+        Ok(halves) => {
+            push_half(alloc, &mut told, "slave", &halves.slave, with_texts)?;
+            push_half(alloc, &mut told, "monitor", &halves.monitor, with_texts)?;
+        }
+        Err(Stop::Refused(refusal)) => {
+            let lines = refusal_lines(alloc, refusal)?;
             told.push_str(str::from_utf8(&lines).context("the lines aren't UTF-8")?)?;
         }
-        Outcome::Split { slave, monitor } => {
-            push_half(alloc, &mut told, "slave", &slave, with_texts)?;
-            push_half(alloc, &mut told, "monitor", &monitor, with_texts)?;
-        }
+        Err(Stop::Memory) => bail!("out of memory"),
     }
     Ok(told)
 }

@@ -7,9 +7,9 @@ use Rattle.pt_core.specs.CodeTree.{view_boot, view_monitor}
 use Rattle.pt_core.specs.WellFormed.{is_well_formed_monitor}
 use Rattle.pair_meaning.specs.Monitors.{Monitor}
 use Rattle.pair_laws.specs.BegunPairsLaws.{HostsServe}
-use Rattle.pair_texts.specs.declared.outcome.Pair.{Pair}
-use Rattle.pair_texts.specs.OutcomeSeen.{HaveBegun, monitor_in}
-use Rattle.pair_texts.specs.Start.{Texts}
+use Rattle.pair_texts.specs.declared.pair.Pair.{Pair}
+use Rattle.pair_texts.specs.Seen.{monitor_in}
+use Rattle.pair_texts.specs.Start.{HaveBegun, Texts}
 use Rattle.pair_laws.specs.BegunPairsLaws.{BegunMonitorsAreWellFormed, BegunMonitorsHostsServe}
 use Rattle.pair_cases.specs.Begun.{AreTextsOf}
 

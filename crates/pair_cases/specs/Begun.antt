@@ -6,14 +6,13 @@ use Rattle.pt_core.specs.CodeTree.{view_monitor}
 use Rattle.pair_meaning.specs.Monitors.{Monitor}
 use Rattle.pair_meaning.specs.Start.{monitor_start}
 use Rattle.monitor_interp.specs.Gates.{hosts_for}
-use Rattle.pair_texts.specs.declared.outcome.Outcome.TheVariants.{Begins}
-use Rattle.pair_texts.specs.declared.outcome.Pair.{Pair}
-use Rattle.pair_texts.specs.OutcomeSeen.{IsOutcome}
+use Rattle.pair_texts.specs.declared.pair.Pair.{Pair}
+use Rattle.pair_texts.specs.Seen.{HasPair}
 use Rattle.pair_texts.specs.Start.{Texts}
 
--- these texts, whose input is of bytes, come to the pair within so many turns
+-- the pair is what these texts, whose input is of bytes, start within so many turns
 pub record AreTextsOf (pair : Pair) (turns : ℕ) (t : Texts) : Type 0 where
-  pub begins : IsOutcome t turns (Begins pair)
+  pub begins : HasPair t turns pair
   pub bytes : All (λ b. b < 256) t.input
 
 -- the monitor that starts from the pair, with its own hosts alone

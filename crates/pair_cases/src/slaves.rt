@@ -5,13 +5,12 @@ ghost use Rattle.pt_core.specs.CodeTree.{view_boot};
 ghost use Rattle.pt_core.specs.WellFormed.{is_well_formed_boot};
 
 use crate::frames::frame_of;
-use crate::texts::Texts;
+use crate::texts::{Texts, pair_of};
 use anyhow::{Result, bail};
 use boot_rules::{BootError, read_boot};
 use boots::boot_bytes;
-use case_rows::{Silent, bytes_of, first_word, push_hex};
+use case_rows::{bytes_of, first_word, push_hex};
 use marshalling::BadReply;
-use pair_texts::{Outcome, outcome_of};
 use pt_core::Boot;
 use slave_interp::{Mode, Ran, Slave};
 use std::alloc::Global;
@@ -66,10 +65,7 @@ fn push_talk(alloc: Global, told: &mut String, slave: &mut Slave, stream: &str) 
 fn boot_of<R: Threads + Sync>(rt: &R, alloc: Global, texts: &Texts, turns: u32) -> Result<Boot>
     ensures { IfOk result (λ boot. IsTrue (is_well_formed_boot fits (view_boot boot))) }
 {
-    let outcome = outcome_of(rt, alloc, texts.program(), texts.beside(turns), &Silent)?;
-    let Outcome::Begins(pair) = outcome else {
-        bail!("the texts have faults");
-    };
+    let pair = pair_of(rt, alloc, texts.program(), texts.beside(turns))?;
     let bytes = boot_bytes(alloc, &pair.boot)?;
     match read_boot(alloc, &bytes) {
         Ok(boot) => Ok(boot),

@@ -11,14 +11,14 @@ ghost use Rattle.pair_texts.specs.Start as start;
 ghost use Rattle.pair_cases.specs.Begun.{AreTextsOf, monitor_of};
 
 use crate::seen::Seen;
-use crate::texts::Texts;
+use crate::texts::{Texts, pair_of};
 use anyhow::{Result, bail};
 use boots::boot_bytes;
-use case_rows::{Silent, bytes_of, first_word};
+use case_rows::{bytes_of, first_word};
 use monitor_interp::Monitor;
 use pair_laws::begun_pairs::{begun_monitors_are_well_formed, begun_monitors_hosts_serve};
 use pair_runner::supervise;
-use pair_texts::{Beside, Outcome, Pair, outcome_of};
+use pair_texts::{Beside, Pair};
 use pt_base::{ByteSink, ScriptLink};
 use second_monitor::push_big;
 use std::alloc::{AllocError, Global};
@@ -126,10 +126,8 @@ pub fn seen_of<R: Threads + Sync>(
     fails: (Vec<u64>, Vec<u64>),
 ) -> Result<Seen> {
     are_bytes(beside.input);
-    match outcome_of(rt, alloc, program, beside, &Silent)? {
-        Outcome::Begins(pair) => serve(alloc, pair, beside.turns, pieces, fails),
-        Outcome::Refused(_) => bail!("the texts have faults"),
-    }
+    let pair = pair_of(rt, alloc, program, beside)?;
+    serve(alloc, pair, beside.turns, pieces, fails)
 }
 
 // What the monitor of a pair makes of the pieces.

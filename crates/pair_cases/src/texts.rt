@@ -1,8 +1,13 @@
 // The texts of a pair.
+ghost use Rattle.std.specs.Prelude.{IfOk};
+ghost use Rattle.pair_texts.specs.Seen.{HasPair, texts_with};
+
 use anyhow::{Result, bail};
-use case_rows::{first_word, spelled};
-use pair_texts::Beside;
+use case_rows::{Silent, first_word, spelled};
+use pair_texts::{Beside, Pair, begin};
+use stages::Stop;
 use std::alloc::Global;
+use std::thread::Threads;
 
 /// The texts that rows have set.
 #[derive(Drop)]
@@ -55,5 +60,25 @@ impl Texts {
             input: self.input.as_bytes(),
             turns,
         }
+    }
+}
+
+/// What a program starts from with these texts beside it.
+///
+/// # Errors
+///
+/// Texts with faults, and want of memory.
+pub fn pair_of<R: Threads + Sync>(
+    rt: &R,
+    alloc: Global,
+    program: &[u8],
+    beside: Beside<'_>,
+) -> Result<Pair>
+    ensures { IfOk result (HasPair (texts_with program.now beside.entry) beside.entry.turns) }
+{
+    match begin(rt, alloc, program, beside, &Silent) {
+        Ok(pair) => Ok(pair),
+        Err(Stop::Refused(_)) => bail!("the texts have faults"),
+        Err(Stop::Memory) => bail!("out of memory"),
     }
 }
