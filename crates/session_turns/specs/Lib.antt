@@ -1,0 +1,3 @@
+pub mod Turns
+pub mod TurnsLaws
+pub mod TwoAdders
