@@ -1,11 +1,6 @@
 // The monitor as it runs.
-use crate::bench::Bench;
-use crate::gate::BytesGate;
 use crate::handled::Handled;
-use crate::serving::serve;
-use crate::state::State;
-use core_machine::Machine;
-use handle_store::Store;
+use crate::seat::Seat;
 use host_table::Host;
 use policy::Policy;
 use pt_core::MonitorProgram;
@@ -17,7 +12,7 @@ use wire::Message;
 #[derive(Drop)]
 pub struct Monitor {
     program: MonitorProgram,
-    state: State,
+    seat: Seat,
 }
 
 #[tactic(auto, unfolding(crate::specs::Monitors::IsMonitor))]
@@ -50,19 +45,8 @@ impl Monitor {
         requires bytes { All (λ b. b < 256) (hosts_of host).input }
         ensures { IfOk result (λ x. IsMonitor x (monitor_start (view_monitor program) (hosts_for (view_monitor program) (models_of (hosts_of host).models)) (hosts_of host).input policy budget)) }
     {
-        let code = program.code(alloc)?;
-        let machine = Machine::new(alloc, &code, 0)?;
-        let gate = BytesGate::new(alloc, program.signatures.as_slice(), host)?;
-        let state = State {
-            bench: Bench { machine, gate },
-            store: Store::new(alloc),
-            policy,
-            calls: 0,
-            turns: 0,
-            last: 0,
-            budget: u64::from(budget),
-        };
-        Ok(Monitor { program, state })
+        let seat = Seat::new(alloc, &program, host, policy, budget)?;
+        Ok(Monitor { program, seat })
     }
 
     /// Serves a message of a peer, whoever that is. What hosts write is appended to `out`. A message that breaks a rule, or that
@@ -79,7 +63,7 @@ impl Monitor {
         ensures handled { IfOk result (λ h. (m : pair.Monitor) → IsMonitor self.old m → Handles (IsMonitor self.new) m (s.serve m message.now) h out.old.items out.new.items) }
         ensures unchanged { IfOk result (λ h. (m : pair.Monitor) → IsMonitor self.old m → ChangesNothing (s.verdict_on m message.now) → IsMonitor self.new m) }
     {
-        let handled = serve(&self.program, &mut self.state, alloc, message, out)?;
+        let handled = self.seat.handle(alloc, &self.program, message, out)?;
         Ok(handled)
     }
 
@@ -87,6 +71,6 @@ impl Monitor {
     pub fn store_count(&self) -> u64
         ensures { (m : pair.Monitor) → IsMonitor self.now m → result ≡ length m.store }
     {
-        self.state.store.count()
+        self.seat.store_count()
     }
 }

@@ -13,23 +13,23 @@ use Rattle.monitor_soundness_law.proofs.ServingEntries.{sound_of}
 use Rattle.monitor_soundness_law.proofs.ServingLemmas.{monitors_begin_sound}
 use Rattle.monitor_interp.specs.Gates.{heard_of, hosts_for, is_host_in, told_of}
 use Rattle.monitor_interp.specs.Marks.{mark_of}
-use Rattle.monitor_interp.specs.Monitors.{IsMonitor}
+use Rattle.monitor_interp.specs.Monitors.{IsSeat}
 use Rattle.monitor_interp.proofs.CallLemmas.{signatures_rise}
 use Rattle.monitor_interp.proofs.GateLemmas.{knows_first, told_first}
 use Rattle.monitor_interp.proofs.MessageLemmas.{serve_for}
-use Rattle.monitor_interp.proofs.monitor.Monitor.new.Goals as goal
+use Rattle.monitor_interp.proofs.seat.Seat.new.Goals as goal
 
 pub new-requires : goal.new-requires
-new-requires c = (true, subst (λ (p : ProgramTree). IsTrue (is_sound true p)) (sym c.in_ok-code.ensures) (sound_of (view_monitor c.args.program) c.requires.well_formed))
+new-requires c = (true, subst (λ (p : ProgramTree). IsTrue (is_sound true p)) (sym c.in_ok-code.ensures) (sound_of (view_monitor c.args.program.now) c.requires.well_formed))
 
 pub new-requires-2 : goal.new-requires-2
 new-requires-2 c =
-    subst (λ (xs : List (FnId × Signature)). IsTrue (are_rising 0 (map (λ s. s.0) (numbered xs)))) (sym c.as_slice.ensures) (signatures_rise c.args.program (view_monitor c.args.program) refl c.requires.well_formed)
+    subst (λ (xs : List (FnId × Signature)). IsTrue (are_rising 0 (map (λ s. s.0) (numbered xs)))) (sym c.as_slice.ensures) (signatures_rise c.args.program.now (view_monitor c.args.program.now) refl c.requires.well_formed)
 
 pub returns : goal.returns
-unfolding IsMonitor
+unfolding IsSeat
 returns c =
-    let half = view_monitor c.args.program in
+    let half = view_monitor c.args.program.now in
     let gate : c.in_ok-gate.gate ≡ heard_of (hosts_of c.args.host) [] (map mark_of half.signatures) =
     c.in_ok-gate.ensures ∙ ap (λ (xs : List (FnId × Signature)). heard_of (hosts_of c.args.host) [] (map mark_of (numbered xs))) c.as_slice.ensures in
     record {

@@ -1,0 +1,93 @@
+// A monitor without its program.
+use crate::bench::Bench;
+use crate::gate::BytesGate;
+use crate::handled::Handled;
+use crate::serving::serve;
+use crate::state::State;
+use core_machine::Machine;
+use handle_store::Store;
+use host_table::Host;
+use policy::Policy;
+use pt_core::MonitorProgram;
+use std::alloc::{AllocError, Global};
+use wire::Message;
+
+/// A monitor between two messages without its program, which several may share: what handles stand for, its globals, its hosts, and
+/// where its policy stands. Contracts see it by `IsSeat`. Where memory is wanting in a message, it isn't used again.
+#[derive(Drop)]
+pub struct Seat {
+    state: State,
+}
+
+#[tactic(auto, unfolding(crate::specs::Monitors::IsSeat))]
+impl Seat {
+    ghost use Rattle.std.specs.Prelude.{◌≡◌, ◌<◌, All, IfOk, IsTrue, length};
+    ghost use Rattle.host_table.specs.Hosts.{hosts_of};
+    ghost use Rattle.host_table.specs.RunHosts.{models_of};
+    ghost use Rattle.wire.specs.Limits.{KeepsCounts};
+    ghost use Rattle.pt_core.specs.declared.monitor.MonitorProgram.{MonitorProgram};
+    ghost use Rattle.pt_core.specs.CodeTree.{view_monitor};
+    ghost use Rattle.pt_core.specs.WellFormed.{is_well_formed_monitor};
+    ghost use Rattle.pair_meaning.specs.Monitors as pair;
+    ghost use Rattle.pair_meaning.specs.Serving as s;
+    ghost use Rattle.pair_meaning.specs.Start.{monitor_start};
+    ghost use Rattle.monitor_soundness_law.specs.ServingSound.{HostsServe};
+    ghost use Rattle.monitor_interp.specs.Gates.{hosts_for};
+    ghost use Rattle.monitor_interp.specs.Handling.{ChangesNothing, Handles};
+    ghost use Rattle.monitor_interp.specs.Monitors.{IsSeat};
+
+    /// A monitor of this program, which has stored nothing and served nothing. Each host that the program calls or that may be
+    /// asked for has a model that may stand for it. Of other hosts nothing is heard.
+    pub fn new(
+        alloc: Global,
+        program: &MonitorProgram,
+        host: Host,
+        policy: Policy,
+        budget: u32,
+    ) -> Result<Seat, AllocError>
+        requires well_formed { IsTrue (is_well_formed_monitor (view_monitor program.now)) }
+        requires hosts { HostsServe (view_monitor program.now) (models_of (hosts_of host).models) }
+        requires bytes { All (λ b. b < 256) (hosts_of host).input }
+        ensures { IfOk result (λ x. IsSeat program.now x (monitor_start (view_monitor program.now) (hosts_for (view_monitor program.now) (models_of (hosts_of host).models)) (hosts_of host).input policy budget)) }
+    {
+        let code = program.code(alloc)?;
+        let machine = Machine::new(alloc, &code, 0)?;
+        let gate = BytesGate::new(alloc, program.signatures.as_slice(), host)?;
+        let state = State {
+            bench: Bench { machine, gate },
+            store: Store::new(alloc),
+            policy,
+            calls: 0,
+            turns: 0,
+            last: 0,
+            budget: u64::from(budget),
+        };
+        Ok(Seat { state })
+    }
+
+    /// Serves a message of a peer, whoever that is, for a monitor of this program. What hosts write is appended to `out`. A message
+    /// that breaks a rule, or that ends the run by itself or by the policy, changes nothing. Behind an end that a call's own work
+    /// came to it isn't used again.
+    pub fn handle(
+        &mut self,
+        alloc: Global,
+        program: &MonitorProgram,
+        message: &Message,
+        out: &mut Vec<u8>,
+    ) -> Result<Handled, AllocError>
+        requires counts { KeepsCounts message.now }
+        requires stands { (m : pair.Monitor) × IsSeat program.now self.old m }
+        ensures handled { IfOk result (λ h. (m : pair.Monitor) → IsSeat program.now self.old m → Handles (IsSeat program.now self.new) m (s.serve m message.now) h out.old.items out.new.items) }
+        ensures unchanged { IfOk result (λ h. (m : pair.Monitor) → IsSeat program.now self.old m → ChangesNothing (s.verdict_on m message.now) → IsSeat program.now self.new m) }
+    {
+        let handled = serve(program, &mut self.state, alloc, message, out)?;
+        Ok(handled)
+    }
+
+    /// How many values are stored.
+    pub fn store_count(&self) -> u64
+        ensures { (program : MonitorProgram) (m : pair.Monitor) → IsSeat program self.now m → result ≡ length m.store }
+    {
+        self.state.store.count()
+    }
+}
