@@ -16,7 +16,12 @@ pub fn push_answer(told: &mut String, answer: Result<End, RunFault>) -> Result<(
     }
 }
 
-fn push_end(told: &mut String, end: &End) -> Result<(), AllocError> {
+/// Appends how a run ended. A function is told by its number.
+///
+/// # Errors
+///
+/// Want of memory.
+pub fn push_end(told: &mut String, end: &End) -> Result<(), AllocError> {
     match end {
         End::Exit(status) => write!(told, "exit {status}"),
         End::Trapped(trap, span) => {

@@ -1,4 +1,5 @@
 // Runs in batches, and a line of each batch.
+use crate::checksum::Adler;
 use crate::seen::{Kind, Seen};
 use crate::streams::pieces_of;
 use crate::supervised::seen_of;
@@ -39,30 +40,11 @@ pub struct Given<'a> {
     pub piece: usize,
 }
 
-// The checksum Adler-32 (RFC 1950) of bytes.
-#[derive(Clone, Copy)]
-struct Adler {
-    a: u32,
-    b: u32,
-}
-
 // What the second monitor says of a stream.
 #[derive(Drop)]
 struct Second {
     told: String,
     monitor: SecondMonitor,
-}
-
-impl Adler {
-    fn feed(&mut self, bytes: &[u8]) {
-        let (mut a, mut b) = (self.a, self.b);
-        for byte in bytes {
-            a = a.wrapping_add(u32::from(*byte)) % 65_521;
-            b = b.wrapping_add(a) % 65_521;
-        }
-        self.a = a;
-        self.b = b;
-    }
 }
 
 impl Batch {
@@ -77,7 +59,7 @@ impl Batch {
             sent: 0,
             frames: 0,
             cut: 0,
-            sum: Adler { a: 1, b: 0 },
+            sum: Adler::new(),
             differ: 0,
             change: 0,
             beyond: 0,
@@ -158,8 +140,8 @@ impl Batch {
         }
         let (handles, written, sent) = (self.handles, self.written, self.sent);
         write!(line, ", handles {handles}, written {written}, sent {sent}")?;
-        let (frames, cut, Adler { a, b }) = (self.frames, self.cut, self.sum);
-        write!(line, ", frames {frames}, cut {cut}, sum {b:04x}{a:04x}")?;
+        let (frames, cut, sum) = (self.frames, self.cut, self.sum.number());
+        write!(line, ", frames {frames}, cut {cut}, sum {sum:08x}")?;
         self.push_faults(&mut line)?;
         Ok(line)
     }

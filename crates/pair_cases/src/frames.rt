@@ -1,14 +1,14 @@
-// The frames of a slave's messages, spelled by the table of messages and not by the crate that writes frames.
+// The frames of a slave's messages and of replies, spelled by the table of messages and not by the crate that writes frames.
 use anyhow::{Result, bail};
 use pt_base::{IntType, Span, Trap};
 use std::alloc::{AllocError, Global};
-use wire::{Arg, Block, CallBody, Message, WireCell};
+use wire::{Arg, Block, CallBody, Message, ReplyBody, WireCell};
 
-/// The frame of a message that a slave says.
+/// The frame of a message that a slave says, or of a reply to it.
 ///
 /// # Errors
 ///
-/// A message of the parent, more of something than its field holds, and want of memory.
+/// A piece of a boot, more of something than its field holds, and want of memory.
 pub fn frame_of(alloc: Global, message: &Message) -> Result<Vec<u8>> {
     let payload = payload_of(alloc, message)?;
     let mut frame = Vec::new(alloc);
@@ -37,7 +37,8 @@ fn payload_of(alloc: Global, message: &Message) -> Result<Vec<u8>> {
         Message::Exit { turns, status } => Ok(exited(alloc, *turns, *status)?),
         Message::Trap { turns, kind, span } => Ok(trapped(alloc, *turns, *kind, *span)?),
         Message::Park { turns } => Ok(begun(alloc, 5, *turns)?),
-        Message::Boot(_) | Message::Reply(_) => bail!("no message of a slave"),
+        Message::Reply(body) => Ok(replied(alloc, body)?),
+        Message::Boot(_) => bail!("no message of a slave or to one"),
     }
 }
 
@@ -66,6 +67,24 @@ fn trapped(alloc: Global, turns: u64, kind: Trap, span: Span) -> Result<Vec<u8>,
     out.push(kind_number(kind))?;
     out.extend_from_slice(&span.from.to_be_bytes())?;
     out.extend_from_slice(&span.to.to_be_bytes())?;
+    Ok(out)
+}
+
+fn replied(alloc: Global, body: &ReplyBody) -> Result<Vec<u8>> {
+    let mut out = Vec::new(alloc);
+    out.push(6)?;
+    match body.result {
+        Some(cell) => {
+            out.push(1)?;
+            put_cell(&mut out, cell)?;
+        }
+        None => out.push(0)?,
+    }
+    let cells = body.cells.as_slice();
+    out.extend_from_slice(&u32::try_from(cells.len())?.to_be_bytes())?;
+    for cell in cells {
+        put_cell(&mut out, *cell)?;
+    }
     Ok(out)
 }
 

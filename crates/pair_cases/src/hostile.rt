@@ -1,5 +1,6 @@
 // Streams that no honest slave says, in batches.
 use crate::batches::{Batch, Given};
+use crate::crowds::Crowd;
 use anyhow::{Result, bail};
 use case_rows::first_word;
 use second_monitor::{LARGE_STREAMS, Made, SETTINGS, Setting, large_stream};
@@ -13,7 +14,7 @@ const LONGEST_CUT: usize = 200;
 
 /// What monitors do with the streams that a row names, in a line: `large`, those at the limits of frames; `cut
 /// SETTING`, two in pieces of each size and ended in each place; `part NUMBER STREAMS SETTING`, those of so many
-/// seeds, from the number's multiple of them on.
+/// seeds, from the number's multiple of them on; `sessions HUBS SETTING`, so many hubs with three streams at once.
 ///
 /// # Errors
 ///
@@ -24,6 +25,7 @@ pub fn hostile<R: Threads + Sync>(rt: &R, alloc: Global, row: &str) -> Result<St
         "large" => large(rt, alloc),
         "cut" => cut(rt, alloc, setting_of(rest)?),
         "part" => part(rt, alloc, rest),
+        "sessions" => sessions(rt, alloc, rest),
         _ => bail!("no such streams: {what}"),
     }
 }
@@ -124,4 +126,16 @@ fn run_part<R: Threads + Sync>(
     }
     let title = format!(in alloc; "{}, part {number}", setting.name())?;
     Ok(batch.line(alloc, title.as_str())?)
+}
+
+// The row `HUBS SETTING`.
+fn sessions<R: Threads + Sync>(rt: &R, alloc: Global, row: &str) -> Result<String> {
+    let (hubs, name) = first_word(row);
+    let setting = setting_of(name)?;
+    let mut crowd = Crowd::new();
+    for number in 0..hubs.parse::<u64>()? {
+        crowd.run(rt, alloc, setting, number.wrapping_mul(3))?;
+    }
+    let title = format!(in alloc; "{}, three sessions at once", setting.name())?;
+    Ok(crowd.line(alloc, title.as_str())?)
 }

@@ -1,12 +1,15 @@
 //! Runs rows of lists against both ends of a pair: what a monitor makes of frames that a peer gives, what it does with
 //! streams from seeds that no honest slave says, held against a second reading of the rules, and what a slave says to
-//! replies.
+//! replies; and what a hub makes of its sessions' messages.
 #![tactic(auto)]
 
 mod answers;
 mod batches;
+mod checksum;
+mod crowds;
 mod frames;
 mod hostile;
+mod hubs;
 mod seen;
 mod session;
 mod slaves;

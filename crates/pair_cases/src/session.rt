@@ -1,5 +1,6 @@
 // The texts that rows have set, and what each row shows.
 use crate::hostile::hostile;
+use crate::hubs::hub;
 use crate::slaves::slave;
 use crate::streams::{cuts, firsts};
 use crate::supervised::{failing, supervised};
@@ -39,6 +40,7 @@ impl Shows for Session {
             "firsts" => firsts(rt, alloc, &self.texts, rest),
             "slave" => slave(rt, alloc, &self.texts, rest),
             "hostile" => hostile(rt, alloc, rest),
+            "hub" => hub(rt, alloc, &self.texts, rest),
             _ => bail!("no such row"),
         }
     }
