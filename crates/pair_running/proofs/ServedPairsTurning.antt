@@ -1,0 +1,139 @@
+-- Turns of sessions as the code takes them.
+use Rattle.std.proofs.Common.{◌≡◌, ◌∙◌, ◌+◌, ◌<◌, ◌≤◌, ℕ, zero, suc, Bool, true, false, List, [], ◌∷◌, ◌++◌, Option, Some, None, length, map, not, take, refl, sym, ap, subst, arith, inl, inr, ◌⊎◌}
+use Rattle.std.specs.Prelude.{slice_get, slice_set, replicate}
+use Rattle.facts.proofs.Numbers.{suc_plus, zero_plus}
+use Rattle.pt_base.specs.declared.chooser.Who as base
+use Rattle.pt_base.specs.declared.end.End.{End}
+use Rattle.wire.specs.declared.message.Message.{Message}
+use Rattle.wire.specs.declared.message.ReplyBody.{ReplyBody}
+use Rattle.pair_protocol.specs.Sides.{AreFair, HasReply, Served, goes_on, ends, bad, of_bool}
+use Rattle.pair_protocol.specs.Pair.{Both, run, done, wrong, answered, both_from, both_step, Who, slaves, parents}
+use Rattle.pair_meaning.specs.LinkChoosing.{AreTaken}
+use Rattle.pair_meaning.specs.Monitors.{Monitor}
+use Rattle.pair_meaning.specs.Pair.{the_sides}
+use Rattle.pair_meaning.specs.Rules.{PeerRule}
+use Rattle.pair_meaning.specs.Serving.{serve}
+use Rattle.pair_meaning.specs.SlaveRun.{Doing, Slave, goes, is_over, may_take, mode_of, take as take_reply, waits_for}
+use Rattle.session_turns.specs.Turns.{AreWhole, GoesOn, IsTurn, Reach, TurnsLead, begun, count_running, is_running, over}
+use Rattle.session_turns.proofs.Onward.{onward_steps}
+use Rattle.session_turns.proofs.Laters.{done_stays, turns_join}
+use Rattle.memory_link.specs.CameLaws.{taken_append, taken_none, taken_one}
+use Rattle.sessions.specs.Alone.{after_call, handles, left_by, told_by}
+use Rattle.sessions.specs.Hubs.{Hub, IsKept, OthersStay, monitor_at}
+use Rattle.sessions.proofs.HubCalls.{handled_same}
+use Rattle.sessions.proofs.HubSeats.{handled_others}
+use Rattle.pair_running.specs.declared.served_pairs.served.SessionEnd.{SessionEnd}
+use Rattle.pair_running.specs.declared.served_pairs.turning.Talk.{Talk}
+use Rattle.pair_running.specs.ServedPairsTurns.{AreApart, AreEnds, AreTalks, ComesToEnd, IsTalk, Pair, count_open, end_of, is_open, numbers_of}
+
+-- ---- ends of one pair
+
+steps_more : (j k : ℕ) (b : Pair) → both_from the_sides (j + k) b ≡ both_from the_sides k (both_from the_sides j b)
+steps_more zero k b = ap (λ n. both_from the_sides n b) (zero_plus k)
+steps_more (suc j) k b = ap (λ n. both_from the_sides n b) (sym (suc_plus j k)) ∙ steps_more j k (both_step the_sides b)
+
+-- behind some steps it comes to an end still
+pub later_ends : (j : ℕ) (b c : Pair) → both_from the_sides j b ≡ c → ComesToEnd b → ComesToEnd c
+later_ends j b c is (k, bytes, end, comes) =
+    let turned : k + j ≡ j + k = omega arith in
+    (k, bytes, end, ap (both_from the_sides k) (sym is) ∙ sym (steps_more j k b) ∙ ap (λ n. both_from the_sides n b) (sym turned) ∙ steps_more k j b ∙ ap (both_from the_sides j) comes ∙ done_stays the_sides j bytes end)
+
+pub onward_ends : (s : Slave) (m : Monitor) (written : List ℕ) (next : Pair) → GoesOn the_sides s m written next → ComesToEnd (run s m written) → ComesToEnd next
+onward_ends s m written next h comes = later_ends h.steps (run s m written) next (onward_steps the_sides s m written next h) comes
+
+-- one that breaks a rule comes to none
+wrong_stays : (k : ℕ) (bytes : List ℕ) (q : PeerRule) → both_from the_sides k (wrong bytes q) ≡ wrong bytes q
+wrong_stays zero bytes q = refl
+wrong_stays (suc k) bytes q = wrong_stays k bytes q
+
+wrong_not_done : (bytes bytes' : List ℕ) (q : PeerRule) (end : End) → wrong {S = Slave} {M = Monitor} bytes q ≡ done bytes' end → ⊥
+wrong_not_done bytes bytes' q end e = cc
+
+pub wrong_never_ends : (bytes : List ℕ) (q : PeerRule) → ComesToEnd (wrong bytes q) → ⊥
+wrong_never_ends bytes q (k, written, end, comes) = wrong_not_done bytes written q end (sym (wrong_stays k bytes q) ∙ comes)
+
+-- nor does one whose slave has said its last
+over_stays : (k : ℕ) (s : Slave) (m : Monitor) (bytes : List ℕ) → s.doing ≡ is_over → both_from the_sides k (run s m bytes) ≡ run s m bytes
+over_stays zero s m bytes is = refl
+over_stays (suc k) s m bytes is =
+    let still : both_step the_sides (run s m bytes) ≡ run s m bytes = rw is refl in
+    ap (both_from the_sides k) still ∙ over_stays k s m bytes is
+
+run_not_done : (s : Slave) (m : Monitor) (bytes bytes' : List ℕ) (end : End) → run {Q = PeerRule} s m bytes ≡ done bytes' end → ⊥
+run_not_done s m bytes bytes' end e = cc
+
+pub over_never_ends : (s : Slave) (m : Monitor) (bytes : List ℕ) → s.doing ≡ is_over → ComesToEnd (run s m bytes) → ⊥
+over_never_ends s m bytes is (k, written, end, comes) = run_not_done s m bytes written end (sym (over_stays k s m bytes is) ∙ comes)
+
+-- ---- what others did
+
+-- a talk of another session stands where it stood
+pub talk_stays : (h next : Hub) (session : ℕ) (x : Talk) (b : Pair) → OthersStay session h next → (x.session ≡ session → ⊥) → IsTalk h x b → IsTalk next x b
+talk_stays h next session x (run s m written) others apart is = (is.0, is.1, is.2, others.others x.session apart ∙ is.3)
+talk_stays h next session x (done bytes end) others apart is = is
+talk_stays h next session x (wrong bytes rule) others apart is = is
+
+pub talks_stay : (h next : Hub) (session : ℕ) (xs : List Talk) (bs : List Pair) → OthersStay session h next → ((k j : ℕ) → slice_get (numbers_of xs) j ≡ Some k → k ≡ session → ⊥) → AreTalks h xs bs → AreTalks next xs bs
+talks_stay h next session [] [] others apart is = is
+talks_stay h next session [] (b ∷ bs) others apart is = is
+talks_stay h next session (x ∷ xs) [] others apart is = is
+talks_stay h next session (x ∷ xs) (b ∷ bs) others apart is = (
+  talk_stays h next session x b others (apart x.session 0 refl) is.0,
+  is.1,
+  talks_stay h next session xs bs others (λ k j at. apart k (suc j) at) is.2,
+)
+
+-- ---- how many run
+
+-- as many of the talks haven't ended as pairs run
+open_of : (h : Hub) (x : Talk) (b : Pair) → IsTalk h x b → is_open x.end ≡ of_bool (is_running b)
+open_of h x (run s m written) is = ap is_open is.0
+open_of h x (done bytes end) is = ap is_open is.0
+open_of h x (wrong bytes rule) is = absurd is
+
+pub as_many_run : (h : Hub) (xs : List Talk) (bs : List Pair) → AreTalks h xs bs → count_open xs ≡ count_running bs
+as_many_run h [] [] is = refl
+as_many_run h [] (b ∷ bs) is = absurd is
+as_many_run h (x ∷ xs) [] is = absurd is
+as_many_run h (x ∷ xs) (b ∷ bs) is = λ i. open_of h x b is.0 i + as_many_run h xs bs is.2 i
+
+-- and so many of the first ones
+pub as_many_before : (h : Hub) (n : ℕ) (xs : List Talk) (bs : List Pair) → AreTalks h xs bs → count_open (take n xs) ≡ count_running (take n bs)
+as_many_before h zero xs bs is = refl
+as_many_before h (suc n) [] [] is = refl
+as_many_before h (suc n) [] (b ∷ bs) is = absurd is
+as_many_before h (suc n) (x ∷ xs) [] is = absurd is
+as_many_before h (suc n) (x ∷ xs) (b ∷ bs) is = λ i. open_of h x b is.0 i + as_many_before h n xs bs is.2 i
+
+-- ---- ends
+
+-- where none runs, all are over, and these are their ends
+pub all_over : (h : Hub) (xs : List Talk) (bs : List Pair) (es : List SessionEnd) → AreTalks h xs bs → count_running bs ≡ 0 → AreEnds xs es → bs ≡ map over (map end_of es)
+all_over h [] [] [] is none ends = refl
+all_over h [] [] (e ∷ es) is none ends = absurd ends
+all_over h [] (b ∷ bs) es is none ends = absurd is
+all_over h (x ∷ xs) [] es is none ends = absurd is
+all_over h (x ∷ xs) (b ∷ bs) [] is none ends = absurd ends
+all_over h (x ∷ xs) (run s m written ∷ bs) (e ∷ es) is none ends = absurd (omega (arith, none))
+all_over h (x ∷ xs) (wrong bytes rule ∷ bs) (e ∷ es) is none ends = absurd is.0
+all_over h (x ∷ xs) (done bytes end ∷ bs) (e ∷ es) is none ends =
+    let none_behind : count_running bs ≡ 0 = omega (arith, none) in
+    let written : bytes ≡ e.bytes = sym is.0.1 ∙ sym ends.0.0 in
+    let ended : end ≡ e.end = some_is end e.end (sym is.0.0 ∙ ends.0.1) in
+    let others = all_over h xs bs es is.2 none_behind ends.1 in
+    λ i. done (written i) (ended i) ∷ others i
+  where
+    some_is : (a b : End) → Some a ≡ Some b → a ≡ b
+    some_is a b e = cc
+
+-- ---- turns behind turns
+
+-- one turn more
+pub lead_more : (n : ℕ) (answers more : List Who) (pairs at end : List Pair) → TurnsLead the_sides n answers pairs at → IsTurn the_sides more at end → TurnsLead the_sides (n + 1) (answers ++ more) pairs end
+lead_more n answers more pairs at end lead turn =
+    turns_join Slave Monitor Message ReplyBody End PeerRule the_sides n 1 answers more pairs at end lead
+    (more, [], end, sym (append_none more), turn, (refl, refl))
+  where
+    append_none : (xs : List Who) → xs ++ [] ≡ xs
+    append_none [] = refl
+    append_none (x ∷ xs) = ap (λ ys. x ∷ ys) (append_none xs)
