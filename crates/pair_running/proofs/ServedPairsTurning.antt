@@ -38,6 +38,20 @@ later_ends j b c is (k, bytes, end, comes) =
     let turned : k + j ≡ j + k = omega arith in
     (k, bytes, end, ap (both_from the_sides k) (sym is) ∙ sym (steps_more j k b) ∙ ap (λ n. both_from the_sides n b) (sym turned) ∙ steps_more k j b ∙ ap (both_from the_sides j) comes ∙ done_stays the_sides j bytes end)
 
+abbrev end_at : List ℕ × End → Pair → List ℕ × End
+end_at x (run s m written) = x
+end_at x (done bytes end) = (bytes, end)
+end_at x (wrong bytes q) = x
+
+both_end : (j k : ℕ) (b : Pair) (bytes : List ℕ) (end : End) → both_from the_sides j b ≡ done bytes end → both_from the_sides (j + k) b ≡ done bytes end
+both_end j k b bytes end comes = steps_more j k b ∙ ap (both_from the_sides k) comes ∙ done_stays the_sides k bytes end
+
+-- a pair has one end
+pub one_end : (j k : ℕ) (b : Pair) (x y : List ℕ × End) → both_from the_sides j b ≡ done x.0 x.1 → both_from the_sides k b ≡ done y.0 y.1 → x ≡ y
+one_end j k b x y p q =
+    let turned : k + j ≡ j + k = omega arith in
+    ap (end_at x) (sym (both_end j k b x.0 x.1 p) ∙ ap (λ n. both_from the_sides n b) (sym turned) ∙ both_end k j b y.0 y.1 q)
+
 pub onward_ends : (s : Slave) (m : Monitor) (written : List ℕ) (next : Pair) → GoesOn the_sides s m written next → ComesToEnd (run s m written) → ComesToEnd next
 onward_ends s m written next h comes = later_ends h.steps (run s m written) next (onward_steps the_sides s m written next h) comes
 

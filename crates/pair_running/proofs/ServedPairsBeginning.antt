@@ -1,0 +1,78 @@
+-- Where sessions begin, and what they come to.
+use Rattle.std.proofs.Common.{◌≡◌, ◌<◌, ◌≤◌, ◌^◌, ℕ, List, [], ◌∷◌, length, map, refl, ap}
+use Rattle.std.specs.Prelude.{All}
+use Rattle.host_table.specs.Hosts.{hosts_of}
+use Rattle.runs.specs.Run.{Expected}
+use Rattle.pt_base.specs.declared.end.End.{End}
+use Rattle.policy.specs.Verdicts.{start}
+use Rattle.pair_protocol.specs.Pair.{run, done, both_from}
+use Rattle.pair_meaning.specs.Pair.{the_sides}
+use Rattle.pair_meaning.specs.SlaveRun.{slave_of}
+use Rattle.monitor_interp.specs.Gates.{hosts_for}
+use Rattle.pair_laws.specs.BegunPairsLaws.{BegunPairsAreExpected, DoesWhatIsExpected, expected_of}
+use Rattle.pair_texts.specs.declared.sharing.Shared.{Shared}
+use Rattle.pair_texts.specs.Several.{AreShared, AreShort, SharedTexts, with_input}
+use Rattle.pair_texts.specs.Start.{HaveBegun, names_of}
+use Rattle.stages.specs.GivenHosts.{most}
+use Rattle.pair_texts.proofs.SharedLemmas.{shared_begin}
+use Rattle.session_turns.specs.TurnsLaws.{ComeTo}
+use Rattle.pair_running.specs.LocalPairLocal.{IsPairRun}
+use Rattle.pair_running.specs.LocalPairWhole.{alone}
+use Rattle.pair_running.specs.ServedPairsBeginning.{AreOfBytes, boot_in, monitor_in, starts_of}
+use Rattle.pair_running.specs.ServedPairsServed.{AreRan, Session, ran_by}
+use Rattle.pair_running.specs.ServedPairsTurns.{AreStartedEach, ComesToEnd}
+use Rattle.pair_running.proofs.LocalPairBeginning.{own_hosts_are}
+use Rattle.pair_running.proofs.ServedPairsTurning.{one_end}
+
+-- ---- one input
+
+module _ (law : BegunPairsAreExpected) (t : SharedTexts) (x : Shared) (turns : ℕ) (small : turns < 2 ^ 32) (shared : AreShared t x) where
+  abbrev began : (input : List ℕ) → length input ≤ most → HaveBegun (with_input t input) turns (boot_in x turns input) (monitor_in x turns input)
+  began input short = shared_begin t x input turns shared short
+
+  abbrev expected_in : List ℕ → Expected
+  expected_in input = expected_of shared.tree (start x.policy.rules) (hosts_of x.hosts) input turns
+
+  does : (input : List ℕ) → length input ≤ most → All (λ b. b < 256) input → DoesWhatIsExpected (expected_in input) (boot_in x turns input) (alone (monitor_in x turns input))
+  does input short bytes =
+      let m = monitor_in x turns input in
+      law (with_input t input) turns (boot_in x turns input) m (began input short) (hosts_for m.program m.hosts) bytes small (own_hosts_are m.program m.hosts)
+
+  pub comes_to_end : (input : List ℕ) → length input ≤ most → All (λ b. b < 256) input → ComesToEnd (run (slave_of (boot_in x turns input)) (alone (monitor_in x turns input)) [])
+  comes_to_end input short bytes =
+      let e = expected_in input in
+      let comes = (does input short bytes).ends in
+      (comes.0, e.bytes, e.end, comes.1)
+
+  -- the end to which it comes is what is expected
+  pub pair_ran : (input : List ℕ) → length input ≤ most → All (λ b. b < 256) input → (k : ℕ) (written : List ℕ) (end : End)
+      → both_from the_sides k (run (slave_of (boot_in x turns input)) (alone (monitor_in x turns input)) []) ≡ done written end
+      → IsPairRun turns (with_input t input) (ran_by (names_of shared.tree) (record { bytes = written; end = end }))
+  pair_ran input short bytes k written end comes =
+      let e = expected_in input in
+      let other = (does input short bytes).ends in
+      let same = one_end k other.0 (run (slave_of (boot_in x turns input)) (alone (monitor_in x turns input)) []) (written, end) (e.bytes, e.end) comes other.1 in
+      let s = (began input short).started in (
+        shared.tree,
+        e,
+        record { hosts = s.hosts; rules = s.rules; accepted = s.accepted; read = s.read; is = s.is; short = s.short; expected_is = refl },
+        ap (λ (z : List ℕ × End). z.0) same,
+        refl,
+        ap (λ (z : List ℕ × End). z.1) same,
+      )
+
+  -- ---- all inputs
+
+  pub all_started : (inputs : List (List ℕ)) → AreShort inputs → AreStartedEach t turns inputs (starts_of x turns inputs)
+  all_started [] short = tt
+  all_started (input ∷ inputs) short = ((boot_in x turns input, monitor_in x turns input, (began input short.0).started, refl, refl), all_started inputs short.1)
+
+  abbrev session_at : List ℕ × End → Session
+  session_at e = record { bytes = e.0; end = e.1 }
+
+  pub all_ran : (inputs : List (List ℕ)) (ends : List (List ℕ × End)) → AreShort inputs → AreOfBytes inputs → ComeTo the_sides (starts_of x turns inputs) ends
+      → AreRan t turns (names_of shared.tree) inputs (map session_at ends)
+  all_ran [] [] short bytes come = tt
+  all_ran [] (e ∷ es) short bytes come = absurd come
+  all_ran (input ∷ inputs) [] short bytes come = absurd come
+  all_ran (input ∷ inputs) (e ∷ es) short bytes come = (pair_ran input short.0 bytes.0 come.0.0 e.0 e.1 come.0.1, all_ran inputs es short.1 bytes.1 come.1)
