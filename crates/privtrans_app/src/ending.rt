@@ -23,6 +23,8 @@ pub(crate) enum Report {
     Faults(Vec<u8>),
     /// A run came to its end, of a program whose functions have these names, by their numbers.
     Ended(End, Listed<Bytes>),
+    /// Several sessions came to their ends: the lines that report them.
+    Served(Vec<u8>),
 }
 
 /// What a call comes to.
@@ -57,6 +59,7 @@ pub(crate) fn told_status(report: &Report) -> u8
         Report::Split => 0,
         Report::Faults(_) => 5,
         Report::Ended(end, _) => end_status(end),
+        Report::Served(_) => 0,
     }
 }
 
@@ -110,6 +113,7 @@ fn lines(alloc: Global, report: Report) -> Result<Vec<u8>, AllocError>
         Report::Split => Vec::from_slice(alloc, b"split\n"),
         Report::Faults(lines) => Ok(lines),
         Report::Ended(end, names) => end_line(alloc, names.as_slice(), &end),
+        Report::Served(lines) => Ok(lines),
     }
 }
 

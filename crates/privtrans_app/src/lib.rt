@@ -5,6 +5,7 @@ mod ending;
 mod help;
 mod reading;
 mod run;
+mod sessions;
 mod showing;
 mod slave;
 mod split;
