@@ -1,5 +1,6 @@
 -- Where sessions begin, and what they come to.
-use Rattle.std.proofs.Common.{◌≡◌, ◌<◌, ◌≤◌, ◌^◌, ℕ, List, [], ◌∷◌, length, map, refl, ap}
+use Rattle.std.proofs.Common.{◌≡◌, ◌∙◌, ◌<◌, ◌≤◌, ◌+◌, ◌^◌, ℕ, suc, List, [], ◌∷◌, ◌++◌, Some, false, length, map, refl, ap, arith}
+use Rattle.std.proofs.lemmas.Bool.Decides.{nat_tests}
 use Rattle.std.specs.Prelude.{All}
 use Rattle.host_table.specs.Hosts.{hosts_of}
 use Rattle.runs.specs.Run.{Expected}
@@ -10,6 +11,9 @@ use Rattle.pair_meaning.specs.Pair.{the_sides}
 use Rattle.pair_meaning.specs.SlaveRun.{slave_of}
 use Rattle.monitor_interp.specs.Gates.{hosts_for}
 use Rattle.pair_laws.specs.BegunPairsLaws.{BegunPairsAreExpected, DoesWhatIsExpected, expected_of}
+use Rattle.sessions.specs.Alone.{after_calls}
+use Rattle.sessions.specs.Hubs.{Hub, IsKept, begun_with, is_full, monitor_at, with_opened}
+use Rattle.sessions.proofs.HubCalls.{IsMadeAlike, begun_alike, opened_kept, opened_others, opened_own}
 use Rattle.pair_texts.specs.declared.sharing.Shared.{Shared}
 use Rattle.pair_texts.specs.Several.{AreShared, AreShort, SharedTexts, with_input}
 use Rattle.pair_texts.specs.Start.{HaveBegun, names_of}
@@ -18,7 +22,7 @@ use Rattle.pair_texts.proofs.SharedLemmas.{shared_begin}
 use Rattle.session_turns.specs.TurnsLaws.{ComeTo}
 use Rattle.pair_running.specs.LocalPairLocal.{IsPairRun}
 use Rattle.pair_running.specs.LocalPairWhole.{alone}
-use Rattle.pair_running.specs.ServedPairsBeginning.{AreOfBytes, boot_in, monitor_in, starts_of}
+use Rattle.pair_running.specs.ServedPairsBeginning.{AreOfBytes, boot_in, monitor_in, openings, starts_of}
 use Rattle.pair_running.specs.ServedPairsServed.{AreRan, Session, ran_by}
 use Rattle.pair_running.specs.ServedPairsTurns.{AreStartedEach, ComesToEnd}
 use Rattle.pair_running.proofs.LocalPairBeginning.{own_hosts_are}
@@ -76,3 +80,47 @@ module _ (law : BegunPairsAreExpected) (t : SharedTexts) (x : Shared) (turns : �
   all_ran [] (e ∷ es) short bytes come = absurd come
   all_ran (input ∷ inputs) [] short bytes come = absurd come
   all_ran (input ∷ inputs) (e ∷ es) short bytes come = (pair_ran input short.0 bytes.0 come.0.0 e.0 e.1 come.0.1, all_ran inputs es short.1 bytes.1 come.1)
+
+-- ---- sessions that were opened
+
+-- each of these numbers, counted from there on, has the monitor of its input
+abbrev pub Opened : Hub → Hub → ℕ → List (List ℕ) → Type 0
+Opened made h n [] = ⊤
+Opened made h n (input ∷ inputs) = (monitor_at h n ≡ Some (begun_with made input)) × Opened made h (suc n) inputs
+
+few_open : (h : Hub) → length h.seats < 64 → is_full h ≡ false
+few_open h few = grind (arith, nat_tests)
+
+-- what opening leaves alone
+opening_stays : (h : Hub) (inputs : List (List ℕ)) (n : ℕ) → IsKept h → n < h.opened → length h.seats + length inputs ≤ 64 → monitor_at (after_calls (openings inputs) h) n ≡ monitor_at h n
+opening_stays h [] n kept given few = refl
+opening_stays h (input ∷ inputs) n kept given few =
+    let room : is_full h ≡ false = few_open h (omega arith) in
+    let next = with_opened input h in
+    let seats : length next.seats ≡ length h.seats + 1 = length_push h.seats (h.opened, begun_with h input) in
+    let apart : n ≡ h.opened → ⊥ = λ e. omega (arith, given, e) in
+    rw room (opening_stays next inputs n (opened_kept h input kept room) (omega (arith, given)) (omega (arith, few, seats)) ∙ (opened_others h input).others n apart)
+  where
+    length_push : {X : Type 0} (xs : List X) (x : X) → length (xs ++ x ∷ []) ≡ length xs + 1
+    length_push [] x = refl
+    length_push (y ∷ xs) x = ap (λ k. suc k) (length_push xs x)
+
+-- each is open then, with its input and with what the hub was made with
+pub all_opened : (made h : Hub) (inputs : List (List ℕ)) → IsKept h → IsMadeAlike made h → length h.seats + length inputs ≤ 64 → Opened made (after_calls (openings inputs) h) h.opened inputs
+all_opened made h [] kept alike few = tt
+all_opened made h (input ∷ inputs) kept alike few =
+    let room : is_full h ≡ false = few_open h (omega arith) in
+    let next = with_opened input h in
+    let next_kept = opened_kept h input kept room in
+    let seats : length next.seats ≡ length h.seats + 1 = length_push h.seats (h.opened, begun_with h input) in
+    let behind : length next.seats + length inputs ≤ 64 = omega (arith, few, seats) in
+    rw room (
+      opening_stays next inputs h.opened next_kept (omega arith) behind ∙ opened_own h input kept ∙ ap Some (begun_alike made h input alike),
+      all_opened made next inputs next_kept (opened_alike made h input alike) behind,
+    )
+  where
+    length_push : {X : Type 0} (xs : List X) (x : X) → length (xs ++ x ∷ []) ≡ length xs + 1
+    length_push [] x = refl
+    length_push (y ∷ xs) x = ap (λ k. suc k) (length_push xs x)
+    opened_alike : (made h : Hub) (input : List ℕ) → IsMadeAlike made h → IsMadeAlike made (with_opened input h)
+    opened_alike made h input alike = let more = alike.more in record { program = alike.program; hosts = alike.hosts; policy = alike.policy; budget = alike.budget; more = omega (arith, more) }

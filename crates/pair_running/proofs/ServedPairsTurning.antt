@@ -1,30 +1,31 @@
 -- Turns of sessions as the code takes them.
-use Rattle.std.proofs.Common.{◌≡◌, ◌∙◌, ◌+◌, ◌<◌, ◌≤◌, ℕ, zero, suc, Bool, true, false, List, [], ◌∷◌, ◌++◌, Option, Some, None, length, map, not, take, refl, sym, ap, subst, arith, inl, inr, ◌⊎◌}
-use Rattle.std.specs.Prelude.{slice_get, slice_set, replicate}
+use Rattle.std.proofs.Common.{◌≡◌, ◌∙◌, ◌+◌, ℕ, zero, suc, List, [], ◌∷◌, ◌++◌, Option, Some, None, Result, Ok, Err, IfOk, Vec, Global, length, map, take, refl, sym, ap, subst, arith}
+use Rattle.std.specs.Prelude.{slice_get}
 use Rattle.facts.proofs.Numbers.{suc_plus, zero_plus}
 use Rattle.pt_base.specs.declared.chooser.Who as base
 use Rattle.pt_base.specs.declared.end.End.{End}
 use Rattle.wire.specs.declared.message.Message.{Message}
 use Rattle.wire.specs.declared.message.ReplyBody.{ReplyBody}
-use Rattle.pair_protocol.specs.Sides.{AreFair, HasReply, Served, goes_on, ends, bad, of_bool}
-use Rattle.pair_protocol.specs.Pair.{Both, run, done, wrong, answered, both_from, both_step, Who, slaves, parents}
-use Rattle.pair_meaning.specs.LinkChoosing.{AreTaken}
+use Rattle.pair_protocol.specs.Sides.{of_bool}
+use Rattle.pair_protocol.specs.Pair.{run, done, wrong, both_from, both_step, Who}
 use Rattle.pair_meaning.specs.Monitors.{Monitor}
 use Rattle.pair_meaning.specs.Pair.{the_sides}
 use Rattle.pair_meaning.specs.Rules.{PeerRule}
-use Rattle.pair_meaning.specs.Serving.{serve}
-use Rattle.pair_meaning.specs.SlaveRun.{Doing, Slave, goes, is_over, may_take, mode_of, take as take_reply, waits_for}
-use Rattle.session_turns.specs.Turns.{AreWhole, GoesOn, IsTurn, Reach, TurnsLead, begun, count_running, is_running, over}
+use Rattle.pair_meaning.specs.SlaveRun.{Slave, is_over}
+use Rattle.session_turns.specs.Turns.{GoesOn, IsTurn, TurnsLead, begun, count_running, is_running, over}
 use Rattle.session_turns.proofs.Onward.{onward_steps}
 use Rattle.session_turns.proofs.Laters.{done_stays, turns_join}
-use Rattle.memory_link.specs.CameLaws.{taken_append, taken_none, taken_one}
-use Rattle.sessions.specs.Alone.{after_call, handles, left_by, told_by}
-use Rattle.sessions.specs.Hubs.{Hub, IsKept, OthersStay, monitor_at}
-use Rattle.sessions.proofs.HubCalls.{handled_same}
-use Rattle.sessions.proofs.HubSeats.{handled_others}
+use Rattle.memory_link.specs.CameLaws.{taken_none}
+use Rattle.sessions.specs.declared.hub.Hub as code_hub
+use Rattle.sessions.specs.Hubs.{Hub, OthersStay}
+use Rattle.sessions.specs.IsHub.{IsHub}
+use Rattle.stages.specs.declared.refusal.Stop.{Stop}
+use Rattle.stages.specs.declared.refusal.Stop.TheVariants.{Refused, Memory}
+use Rattle.pair_texts.specs.Several.{SharedTexts}
+use Rattle.std.specs.declared.alloc.AllocError.{AllocError}
 use Rattle.pair_running.specs.declared.served_pairs.served.SessionEnd.{SessionEnd}
 use Rattle.pair_running.specs.declared.served_pairs.turning.Talk.{Talk}
-use Rattle.pair_running.specs.ServedPairsTurns.{AreApart, AreEnds, AreTalks, ComesToEnd, IsTalk, Pair, count_open, end_of, is_open, numbers_of}
+use Rattle.pair_running.specs.ServedPairsTurns.{AreEnds, AreSeated, AreTalks, AreWholeTurns, ComesToEnd, HaveGone, HaveRun, IsTalk, Pair, SeatedEach, StandAt, count_open, end_of, is_open, numbers_of}
 
 -- ---- ends of one pair
 
@@ -151,3 +152,40 @@ lead_more n answers more pairs at end lead turn =
     append_none : (xs : List Who) → xs ++ [] ≡ xs
     append_none [] = refl
     append_none (x ∷ xs) = ap (λ ys. x ∷ ys) (append_none xs)
+
+-- ---- where they begin and end
+
+begin_each : (h : Hub) (xs : List Talk) (starts : List (Slave × Monitor)) → SeatedEach h xs starts → AreTalks h xs (map begun starts)
+begin_each h [] [] each = each
+begin_each h [] (s ∷ ss) each = absurd each
+begin_each h (x ∷ xs) [] each = absurd each
+begin_each h (x ∷ xs) (s ∷ ss) each = ((each.0.runs, each.0.written, each.0.slave, each.0.monitor), each.0.ends, begin_each h xs ss each.1)
+
+all_open : (h : Hub) (xs : List Talk) (starts : List (Slave × Monitor)) → SeatedEach h xs starts → length xs ≡ count_running (map begun starts)
+all_open h [] [] each = refl
+all_open h [] (s ∷ ss) each = absurd each
+all_open h (x ∷ xs) [] each = absurd each
+all_open h (x ∷ xs) (s ∷ ss) each = ap (λ n. 1 + n) (all_open h xs ss each.1)
+
+pub seated_stand : (hub : code_hub) (h : Hub) (xs : List Talk) (starts : List (Slave × Monitor)) → IsHub hub h → AreSeated h xs starts → StandAt hub h xs (map begun starts) (length xs)
+seated_stand hub h xs starts is seated = record { hub_is = is; talks = begin_each h xs starts seated.each; apart = seated.apart; running = all_open h xs starts seated.each }
+
+pub none_open : (h : Hub) (xs : List Talk) (bs : List Pair) → AreTalks h xs bs → 0 ≡ count_running bs → count_open xs ≡ 0
+none_open h xs bs talks none = as_many_run h xs bs talks ∙ sym none
+
+pub have_run : {hub : code_hub} {xs : List Talk} (starts : List (Slave × Monitor)) (told told' : Option (ℕ → base.Who)) → HaveGone hub xs 0 starts told told'
+    → (r : Result (Vec SessionEnd Global) AllocError) → IfOk r (λ ends. AreEnds xs ends.items) → IfOk r (λ ends. HaveRun starts told told' (map end_of ends.items))
+have_run {xs = xs} starts told told' gone (Ok ends) are = record {
+  answers = gone.answers;
+  taken = gone.taken;
+  whole = record {
+    turns = gone.turns;
+    lead = subst (λ (bs : List Pair). TurnsLead the_sides gone.turns gone.answers (map begun starts) bs) (all_over gone.h xs gone.pairs ends.items gone.stand.talks (sym gone.stand.running) are) gone.lead;
+  };
+}
+have_run starts told told' gone (Err wants) are = tt
+
+-- where nothing begins, no answer is taken
+pub none_turned : (t : SharedTexts) (all : List (List ℕ)) (turns : ℕ) (told : Option (ℕ → base.Who)) (stop : Stop) → AreWholeTurns t all turns told told (Err stop)
+none_turned t all turns told (Refused refusal) = taken_none told
+none_turned t all turns told Memory = tt
