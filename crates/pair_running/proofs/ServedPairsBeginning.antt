@@ -1,5 +1,5 @@
 -- Where sessions begin, and what they come to.
-use Rattle.std.proofs.Common.{◌≡◌, ◌∙◌, ◌<◌, ◌≤◌, ◌+◌, ◌^◌, ℕ, suc, List, [], ◌∷◌, ◌++◌, Some, false, length, map, refl, ap, arith}
+use Rattle.std.proofs.Common.{◌≡◌, ◌∙◌, ◌<◌, ◌≤◌, ◌+◌, ◌^◌, ℕ, suc, List, [], ◌∷◌, ◌++◌, Option, Some, false, length, map, refl, sym, ap, subst, arith}
 use Rattle.std.proofs.lemmas.Bool.Decides.{nat_tests}
 use Rattle.std.specs.Prelude.{All}
 use Rattle.host_table.specs.Hosts.{hosts_of}
@@ -8,7 +8,7 @@ use Rattle.pt_base.specs.declared.end.End.{End}
 use Rattle.policy.specs.Verdicts.{start}
 use Rattle.pair_protocol.specs.Pair.{run, done, both_from}
 use Rattle.pair_meaning.specs.Pair.{the_sides}
-use Rattle.pair_meaning.specs.SlaveRun.{slave_of}
+use Rattle.pair_meaning.specs.SlaveRun.{Slave, slave_of}
 use Rattle.monitor_interp.specs.Gates.{hosts_for}
 use Rattle.pair_laws.specs.BegunPairsLaws.{BegunPairsAreExpected, DoesWhatIsExpected, expected_of}
 use Rattle.sessions.specs.Alone.{after_calls}
@@ -20,11 +20,19 @@ use Rattle.pair_texts.specs.Start.{HaveBegun, names_of}
 use Rattle.stages.specs.GivenHosts.{most}
 use Rattle.pair_texts.proofs.SharedLemmas.{shared_begin}
 use Rattle.session_turns.specs.TurnsLaws.{ComeTo}
+use Rattle.session_turns.proofs.TurnsTheorems.{whole_turns_are_alone}
+use Rattle.pt_base.specs.declared.chooser.Who as base
+use Rattle.wire.specs.declared.message.Message.{Message}
+use Rattle.wire.specs.declared.message.ReplyBody.{ReplyBody}
+use Rattle.pair_meaning.specs.Monitors.{Monitor}
+use Rattle.pair_meaning.specs.Rules.{PeerRule}
+use Rattle.pair_running.specs.declared.served_pairs.served.Served as code
+use Rattle.pair_running.specs.declared.served_pairs.served.SessionEnd.{SessionEnd}
 use Rattle.pair_running.specs.LocalPairLocal.{IsPairRun}
 use Rattle.pair_running.specs.LocalPairWhole.{alone}
-use Rattle.pair_running.specs.ServedPairsBeginning.{AreOfBytes, boot_in, monitor_in, openings, starts_of}
-use Rattle.pair_running.specs.ServedPairsServed.{AreRan, Session, ran_by}
-use Rattle.pair_running.specs.ServedPairsTurns.{AreStartedEach, ComesToEnd}
+use Rattle.pair_running.specs.ServedPairsBeginning.{AreOfBytes, MayBegin, boot_in, monitor_in, openings, starts_of}
+use Rattle.pair_running.specs.ServedPairsServed.{AreRan, IsServed, Session, ran_by}
+use Rattle.pair_running.specs.ServedPairsTurns.{AreStartedEach, ComesToEnd, HaveRun, HaveTurns, end_of, view_served, view_session}
 use Rattle.pair_running.proofs.LocalPairBeginning.{own_hosts_are}
 use Rattle.pair_running.proofs.ServedPairsTurning.{one_end}
 
@@ -124,3 +132,35 @@ all_opened made h (input ∷ inputs) kept alike few =
     length_push (y ∷ xs) x = ap (λ k. suc k) (length_push xs x)
     opened_alike : (made h : Hub) (input : List ℕ) → IsMadeAlike made h → IsMadeAlike made (with_opened input h)
     opened_alike made h input alike = let more = alike.more in record { program = alike.program; hosts = alike.hosts; policy = alike.policy; budget = alike.budget; more = omega (arith, more) }
+
+-- ---- what all come to
+
+sessions_seen : (xs : List SessionEnd) → map (λ (e : List ℕ × End). record { bytes = e.0; end = e.1 }) (map end_of xs) ≡ map view_session xs
+sessions_seen [] = refl
+sessions_seen (x ∷ xs) = ap (λ ys. view_session x ∷ ys) (sessions_seen xs)
+
+bytes_seen : (xs : List SessionEnd) → map (λ (x : SessionEnd). x.bytes) xs ≡ map (λ (e : List ℕ × End). e.0) (map end_of xs)
+bytes_seen [] = refl
+bytes_seen (x ∷ xs) = ap (λ ys. x.bytes ∷ ys) (bytes_seen xs)
+
+pub is_served : BegunPairsAreExpected → (t : SharedTexts) (x : Shared) (turns : ℕ) (inputs : List (List ℕ)) (told told' : Option (ℕ → base.Who)) (v : code) → turns < 2 ^ 32 → 1 ≤ length inputs → (may : MayBegin t x inputs)
+    → v.names ≡ x.names → HaveRun (starts_of x turns inputs) told told' (map end_of v.sessions.items) → IsServed t inputs turns (view_served v)
+is_served law t x turns inputs told told' v small some may named run = record {
+  some = some;
+  ran = subst (λ (names : List (List ℕ)). AreRan t turns names inputs (map view_session v.sessions.items)) (sym (named ∙ may.shared.names_are))
+      (subst (λ (xs : List Session). AreRan t turns (names_of may.shared.tree) inputs xs) (sessions_seen v.sessions.items)
+      (all_ran law t x turns small may.shared inputs (map end_of v.sessions.items) may.short may.bytes
+      (whole_turns_are_alone Slave Monitor Message ReplyBody End PeerRule the_sides (starts_of x turns inputs) run.answers (map end_of v.sessions.items) run.whole)));
+}
+
+pub have_turns : BegunPairsAreExpected → (t : SharedTexts) (x : Shared) (turns : ℕ) (inputs : List (List ℕ)) (told told' : Option (ℕ → base.Who)) (xs : List SessionEnd) → turns < 2 ^ 32 → (may : MayBegin t x inputs)
+    → HaveRun (starts_of x turns inputs) told told' (map end_of xs) → HaveTurns t inputs turns told told' (map (λ x. x.bytes) xs)
+have_turns law t x turns inputs told told' xs small may run = record {
+  starts = starts_of x turns inputs;
+  started = all_started law t x turns small may.shared inputs may.short;
+  answers = run.answers;
+  taken = run.taken;
+  ends = map end_of xs;
+  whole = run.whole;
+  bytes_are = bytes_seen xs;
+}

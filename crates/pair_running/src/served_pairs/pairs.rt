@@ -8,6 +8,7 @@ ghost use Rattle.pair_running.specs.ServedPairsTurns.{AreWholeTurns, HaveTurns, 
 use crate::served_pairs::beginning::{Begun, begin, of_bytes};
 use crate::served_pairs::served::Served;
 use crate::served_pairs::turning::run_sessions;
+use pair_laws::begun_pairs::begun_pairs_are_expected;
 use pair_texts::{Shared, share};
 use pt_base::{Bytes, Chooser, Watch};
 use stages::{GivenTexts, Stop};
@@ -29,6 +30,7 @@ fn served<C: Chooser>(
     ensures whole { (t : SharedTexts) → MayBegin t shared all.now
         → IfOk result (λ v. HaveTurns t all.now turns (C.answers chooser.old) (C.answers chooser.new) (map (λ x. x.bytes) v.sessions.items)) }
 {
+    begun_pairs_are_expected();
     let Begun {
         mut hub,
         talks,
