@@ -6,19 +6,22 @@ use Rattle.pt_base.specs.declared.chooser.Who as base
 use Rattle.pt_base.specs.declared.end.End.{End}
 use Rattle.wire.specs.declared.message.Message.{Message}
 use Rattle.wire.specs.declared.message.ReplyBody.{ReplyBody}
-use Rattle.pair_protocol.specs.Sides.{of_bool}
-use Rattle.pair_protocol.specs.Pair.{run, done, wrong, both_from, both_step, Who}
+use Rattle.pair_protocol.specs.Sides.{Served, goes_on, ends, bad, of_bool}
+use Rattle.pair_protocol.specs.Pair.{run, done, wrong, answered, both_from, both_step, Who}
 use Rattle.pair_meaning.specs.Monitors.{Monitor}
 use Rattle.pair_meaning.specs.Pair.{the_sides}
 use Rattle.pair_meaning.specs.Rules.{PeerRule}
 use Rattle.pair_meaning.specs.SlaveRun.{Slave, is_over}
-use Rattle.session_turns.specs.Turns.{GoesOn, IsTurn, TurnsLead, begun, count_running, is_running, over}
+use Rattle.session_turns.specs.Turns.{GoesOn as IsOnward, IsTurn, TurnsLead, begun, count_running, is_running, over}
 use Rattle.session_turns.proofs.Onward.{onward_steps}
 use Rattle.session_turns.proofs.Laters.{done_stays, turns_join}
 use Rattle.memory_link.specs.CameLaws.{taken_none}
+use Rattle.serving_rules.specs.declared.peer_rule.PeerRule as Broken
 use Rattle.sessions.specs.declared.hub.Hub as code_hub
 use Rattle.sessions.specs.Hubs.{Hub, OthersStay}
-use Rattle.sessions.specs.IsHub.{IsHub}
+use Rattle.sessions.specs.Alone.{told_by}
+use Rattle.sessions.specs.IsHub.{IsHub, Tells}
+use Rattle.monitor_interp.specs.declared.handled.Handled.TheVariants.{GoesOn, Ended, Bad}
 use Rattle.stages.specs.declared.refusal.Stop.{Stop}
 use Rattle.stages.specs.declared.refusal.Stop.TheVariants.{Refused, Memory}
 use Rattle.pair_texts.specs.Several.{SharedTexts}
@@ -53,7 +56,7 @@ one_end j k b x y p q =
     let turned : k + j ≡ j + k = omega arith in
     ap (end_at x) (sym (both_end j k b x.0 x.1 p) ∙ ap (λ n. both_from the_sides n b) (sym turned) ∙ both_end k j b y.0 y.1 q)
 
-pub onward_ends : (s : Slave) (m : Monitor) (written : List ℕ) (next : Pair) → GoesOn the_sides s m written next → ComesToEnd (run s m written) → ComesToEnd next
+pub onward_ends : (s : Slave) (m : Monitor) (written : List ℕ) (next : Pair) → IsOnward the_sides s m written next → ComesToEnd (run s m written) → ComesToEnd next
 onward_ends s m written next h comes = later_ends h.steps (run s m written) next (onward_steps the_sides s m written next h) comes
 
 -- one that breaks a rule comes to none
@@ -189,3 +192,22 @@ have_run starts told told' gone (Err wants) are = tt
 pub none_turned : (t : SharedTexts) (all : List (List ℕ)) (turns : ℕ) (told : Option (ℕ → base.Who)) (stop : Stop) → AreWholeTurns t all turns told told (Err stop)
 none_turned t all turns told (Refused refusal) = taken_none told
 none_turned t all turns told Memory = tt
+
+-- ---- what a message came to
+
+-- no rule is broken, since the pair comes to an end
+pub bad_never : (v : Served Monitor ReplyBody End PeerRule) (to : Slave) (written old new : List ℕ) (rule : Broken) → Tells (told_by v) (Bad rule) old new → ComesToEnd (answered the_sides to written v) → ⊥
+bad_never (goes_on m reply bytes) to written old new rule tells comes = tells.0
+bad_never (ends bytes end) to written old new rule tells comes = tells.0
+bad_never (bad q) to written old new rule tells comes = wrong_never_ends written q comes
+
+pub went_on : (v : Served Monitor ReplyBody End PeerRule) (told : Option ReplyBody) (old new : List ℕ) → Tells (told_by v) (GoesOn told) old new
+    → (m : Monitor) × (bytes : List ℕ) × (v ≡ goes_on m told bytes) × (new ≡ old ++ bytes)
+went_on (goes_on m reply bytes) told old new tells = (m, bytes, ap (λ r. goes_on m r bytes) (sym tells.0), tells.1)
+went_on (ends bytes end) told old new tells = absurd tells.0
+went_on (bad q) told old new tells = absurd tells.0
+
+pub came_to_end : (v : Served Monitor ReplyBody End PeerRule) (at : End) (old new : List ℕ) → Tells (told_by v) (Ended at) old new → (bytes : List ℕ) × (v ≡ ends bytes at) × (new ≡ old ++ bytes)
+came_to_end (goes_on m reply bytes) at old new tells = absurd tells.0
+came_to_end (ends bytes end) at old new tells = (bytes, ap (λ e. ends bytes e) (sym tells.0), tells.1)
+came_to_end (bad q) at old new tells = absurd tells.0
