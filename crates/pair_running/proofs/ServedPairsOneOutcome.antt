@@ -1,5 +1,5 @@
 -- Texts with several inputs come to one outcome at most, but for the ways that their faults show.
-use Rattle.std.proofs.Common.{◌≡◌, ◌∙◌, ◌≤◌, ℕ, zero, suc, List, [], ◌∷◌, Some, length, refl, ap, subst, arith}
+use Rattle.std.proofs.Common.{◌≡◌, ◌≤◌, ℕ, zero, suc, List, [], ◌∷◌, Some, length, refl, ap, subst, arith}
 use Rattle.std.specs.Prelude.{slice_get}
 use Rattle.stages.specs.Climb.{Refusal, of_pair}
 use Rattle.stages.specs.Commands.{came, refused}

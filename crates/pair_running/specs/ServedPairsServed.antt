@@ -1,11 +1,10 @@
 -- What texts with several inputs come to when both halves of each pair run, all over one monitor's program, within a budget of turns each.
-use Rattle.std.specs.Prelude.{◌≡◌, ◌≤◌, ℕ, List, [], ◌∷◌, length, ⊤}
+use Rattle.std.specs.Prelude.{◌≤◌, ℕ, List, [], ◌∷◌, length, ⊤}
 use Rattle.pt_base.specs.declared.end.End.{End}
 use Rattle.runs.specs.Run.{Expected}
 use Rattle.typed_tree.specs.TypedTree.{TypedTree}
 use Rattle.stages.specs.Commands.{AreAlike, Climb, came, refused}
 use Rattle.pair_texts.specs.Several.{AreCutInputs, AreCutShared, IsOneRefused, SharedTexts, with_input}
-use Rattle.pair_texts.specs.Start.{names_of}
 use Rattle.pair_running.specs.LocalPairLocal.{IsExpected, IsPairRun, Ran}
 
 -- What a session writes, and how it ends.

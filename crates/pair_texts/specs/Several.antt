@@ -1,7 +1,6 @@
 -- Texts of several pairs: of one program, one host table and one policy, and with an input for each.
 use Rattle.std.specs.Prelude.{◌≡◌, ◌≤◌, ℕ, List, [], ◌∷◌, Some, IsTrue, length, map, slice_get, take, ⊤}
 use Rattle.typed_tree.specs.TypedTree.{TypedTree, signatures_of}
-use Rattle.typed_tree.specs.TypedView.{view_typed}
 use Rattle.typed_tree.specs.WellFormed.{is_well_formed}
 use Rattle.front_end.specs.Reading.{HasTypedTree}
 use Rattle.host_table.specs.Hosts.{hosts_of}

@@ -3,7 +3,7 @@ use Rattle.std.proofs.Common.{◌≡◌, ◌≤◌, ◌+◌, ℕ, List, [], ◌�
 use Rattle.std.specs.declared.alloc.AllocError.{AllocError}
 use Rattle.pt_base.specs.Files.{Files}
 use Rattle.pt_base.specs.declared.chooser.Who.{Who}
-use Rattle.front_end.specs.FaultLinesSeen.{Seen, faulty}
+use Rattle.front_end.specs.FaultLinesSeen.{faulty}
 use Rattle.refusal_lines.specs.Lines.{lines_of}
 use Rattle.stages.specs.Seen.{view_refusal}
 use Rattle.stages.specs.declared.refusal.Stop.{Stop}

@@ -1,4 +1,4 @@
-use Rattle.std.proofs.Common.{◌≡◌, ◌≤◌, ◌<◌, ◌∙◌, ◌+◌, List, [], ◌∷◌, Bor, ℕ, drop, length, map, arith, sym, ap, refl}
+use Rattle.std.proofs.Common.{◌≡◌, ◌≤◌, ◌+◌, List, [], ◌∷◌, Bor, ℕ, drop, length, map, arith, ap, refl}
 use Rattle.std.specs.Prelude.{codes}
 use Rattle.privtrans_app.proofs.words.serve_form.Goals as goal
 

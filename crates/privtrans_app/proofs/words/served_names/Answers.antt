@@ -1,4 +1,4 @@
-use Rattle.std.proofs.Common.{◌≡◌, ◌∙◌, ◌++◌, List, [], ◌∷◌, map, ap}
+use Rattle.std.proofs.Common.{◌∙◌, ◌++◌, map, ap}
 use Rattle.std.proofs.lemmas.List.{map-append}
 use Rattle.privtrans_app.proofs.words.served_names.Goals as goal
 
