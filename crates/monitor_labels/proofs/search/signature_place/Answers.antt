@@ -1,0 +1,9 @@
+use Rattle.std.proofs.Common.{rules}
+use Rattle.std.proofs.lemmas.List.Sorted.{answers_always}
+use Rattle.pt_base.specs.declared.ids.FnId.{FnId}
+use Rattle.pt_tree.specs.declared.signature.Signature.{Signature}
+use Rattle.monitor_labels.proofs.OrderLemmas.{at_place}
+use Rattle.monitor_labels.proofs.search.signature_place.Goals as goal
+
+pub returns-in-Ok : goal.returns-in-Ok
+returns-in-Ok c = at_place (λ (s : FnId × Signature). s.0.0) _ _ c.in-Ok.place c.in-Ok.ensures.bound (c.in-Ok.ensures.position (λ m. m.0.0) (answers_always _ _ _ (λ f a r g called. search rules)))

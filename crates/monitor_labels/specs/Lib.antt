@@ -1,0 +1,12 @@
+pub mod Arrows
+pub mod Counting
+pub mod Labels
+pub mod Laws
+pub mod Nodes
+pub mod NodesView
+pub mod Parts
+pub mod Scopes
+pub mod Searching
+pub mod Secrecy
+pub mod Seeds
+pub mod Verdicts
