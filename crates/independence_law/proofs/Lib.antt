@@ -1,0 +1,16 @@
+mod Agree
+mod Alike
+mod Both
+mod Calls
+mod Changes
+mod Confined
+mod Decided
+mod DeepCalls
+mod Follows
+mod Known
+mod Law
+mod Outcomes
+mod Slices
+mod Stores
+mod Values
+mod Worlds
