@@ -58,7 +58,8 @@ use Rattle.c_lower_law.proofs.Statements.{but_flag, GivesFlow, SameFlow, Stateme
 use Rattle.lowering.specs.Statements.{nowhere}
 use Rattle.c_lower_law.proofs.CorePrograms.{signature_is, global_is, function_found, all_types, own_types, has_temps, no_end}
 use Rattle.c_lower_law.proofs.Entering.{AreScalar, argument_cells, entering, entering_apart, entering_room, entering_objects, leaving_apart, leaving_objects}
-use Rattle.c_lower_law.proofs.HostCalls.{turn_same, turned, noted_alike, numbers_same, host_as, core_host_as, host_alike}
+use Rattle.c_lower_law.proofs.Flows.{alike_left}
+use Rattle.c_lower_law.proofs.HostCalls.{turn_same, noted_alike, numbers_same, host_as, core_host_as, host_alike}
 
 -- ---- the scene of a called function
 
@@ -303,4 +304,4 @@ function_alike program vars core_variables deep0 n g body frames frame deep vs s
     (λ left. subst (λ numbers. Same (Gives s all st'.memory (SameResult g.signature.result)) (entered_as program (f.calls_within program deep) frame g vs (noted (guarded_event frame.privileged g.signature n (numbers_of vs)) (record st { left = left })))
     (core_entered_as (core_program program) (cc_.calls_within (core_program program) deep) (frame_of s) (core_of program n g body) g.signature (argument_cells vs) (noted (guarded_event frame.privileged g.signature n numbers) (record st' { left = left })))) (sym (numbers_same vs))
     (function_runs program vars core_variables deep0 n g body frames frame deep vs (noted (guarded_event frame.privileged g.signature n (numbers_of vs)) (record st { left = left })) (noted (guarded_event frame.privileged g.signature n (numbers_of vs)) (record st' { left = left })) agree scalar h own there has sound not_main lead args size calls
-    (noted_alike s (record st { left = left }) (record st' { left = left }) (guarded_event frame.privileged g.signature n (numbers_of vs)) (turned s st st' left al))))
+    (noted_alike s (record st { left = left }) (record st' { left = left }) (guarded_event frame.privileged g.signature n (numbers_of vs)) (alike_left s st st' left al))))

@@ -31,7 +31,7 @@ use Rattle.c_lower_law.proofs.Memories.{map_take, map_drop, put_there, objects_a
 use Rattle.c_lower_law.proofs.Held.{own_length, same_ok, same_err, not_both, both, both_ok, both_err, asked_made, IsNext, Both, pair_of}
 use Rattle.c_lower_law.proofs.Places.{some_same, pair_then}
 use Rattle.c_lower_law.proofs.Values.{Near, GivesNear, IsNear}
-use Rattle.c_lower_law.proofs.Stores.{both_parts, Stopped, at_first, at_second, both_stop, OnTemps}
+use Rattle.c_lower_law.proofs.Stores.{length_map, both_parts, Stopped, at_first, at_second, both_stop, OnTemps}
 
 -- ---- what is read of an object
 
@@ -183,10 +183,6 @@ set_there (x ∷ xs) (y ∷ cells) zero h =
     first = omega arith
 set_there (x ∷ xs) (y ∷ cells) (suc at) h =
     ap (λ zs. take (suc (length xs)) (drop (suc at) zs)) (set_behind (x ∷ xs) cells y at) ∙ set_there (x ∷ xs) cells at (omega (arith, h))
-
-length_map : (xs : List Cell) → length (map core_cell xs) ≡ length xs
-length_map [] = refl
-length_map (x ∷ xs) = ap suc (length_map xs)
 
 copied_cells : (s : Scene) (k : ℕ) (at : Location) (at' : v.Location) (ys : List Cell) (st : State) (st' : c.State) → Alike s st st' → IsPlace s (Struct k) at at' → length ys ≡ cells_by (sizes_in s) (Struct k) →
     cells_at (all_written st'.memory at'.block at'.cell (map core_cell ys)) at' (cells_by (sizes_in s) (Struct k)) ≡ map core_cell ys

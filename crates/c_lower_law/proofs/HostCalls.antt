@@ -19,20 +19,9 @@ use Rattle.c_lower_law.proofs.Relations.{core_cell, Scene, frame_of, SameSeen, A
 use Rattle.c_lower_law.proofs.Expressions.{SameResult, Gives}
 use Rattle.c_lower_law.proofs.Memories.{kept_same}
 use Rattle.c_lower_law.proofs.Entering.{argument_cells}
+use Rattle.c_lower_law.proofs.Operators.{number_same}
 
 -- ---- turns
-
--- both states with so many turns left
-pub turned : (s : Scene) (st : State) (st' : c.State) (left : ℕ) → Alike s st st' → Alike s (record st { left = left }) (record st' { left = left })
-turned s st st' left al = record {
-  objects = al.objects;
-  room = al.room;
-  fits = al.fits;
-  sized = al.sized;
-  hosts = al.hosts;
-  input = al.input;
-  seen = record { events = al.seen.events; left = refl };
-}
 
 pub turn_same : {A B : Type 0} (s : Scene) (Q : A → State → B → c.State → Type 0) (st : State) (st' : c.State) (next : State → Outcome A) (next' : c.State → c.Outcome B) → Alike s st st' →
     ((left : ℕ) → Same Q (next (record st { left = left })) (next' (record st' { left = left }))) → Same Q (take_turn st.left st next) (take_turn st'.left st' next')
@@ -55,11 +44,6 @@ noted_alike s st st' events al = record {
 }
 
 -- ---- numbers
-
-number_same : (x : Cell) → cv.number_in (core_cell x) ≡ v.number_in x
-number_same (number n) = refl
-number_same null = refl
-number_same (pointer block base count index) = refl
 
 pub numbers_same : (vs : List Value) → map cv.number_in (argument_cells vs) ≡ numbers_of vs
 numbers_same [] = refl

@@ -73,6 +73,7 @@ use Rattle.c_lower_law.specs.Statements.{LoweringKeepsTheRun}
 use Rattle.c_lower_law.proofs.Runs.{run_append}
 use Rattle.c_lower_law.proofs.CorePrograms.{signature_is, global_is, function_found, all_types, own_types, has_temps}
 use Rattle.c_lower_law.proofs.Memories.{objects_put}
+use Rattle.c_lower_law.proofs.Operators.{number_same}
 use Rattle.c_lower_law.proofs.NoBreaks.{Breaks, statement_breaks}
 use Rattle.c_lower_law.proofs.Entering.{AreScalar, entering, entering_room, entering_objects}
 use Rattle.c_lower_law.proofs.CallLaws.{Scalars, temps_of, small_body}
@@ -197,11 +198,6 @@ same_runs e e' d d' n n' turns p q o = ap (λ z. run_with z d' (turns - n')) p �
 zero_is : conv i.Int (pos 0) ≡ pos 0
 unfolding conv
 zero_is = refl
-
-number_same : (x : Cell) → cv.number_in (core_cell x) ≡ v.number_in x
-number_same (number n) = refl
-number_same null = refl
-number_same (pointer block base count index) = refl
 
 status_same : (x : Option core.Cell) (y : Cell) → unwrap_or x (cell.Int (pos 0)) ≡ core_cell y → status_of x ≡ conv i.Int (v.number_in y)
 status_same None y e = sym zero_is ∙ ap (λ z. conv i.Int (cv.number_in z)) e ∙ ap (conv i.Int) (number_same y)

@@ -58,7 +58,7 @@ set_get [] k x h = absurd (nothing_less h)
 set_get (y ∷ ys) zero x h = refl
 set_get (y ∷ ys) (suc k) x h = set_get ys k x (omega arith)
 
-length_map : (xs : List Cell) → length (map core_cell xs) ≡ length xs
+pub length_map : (xs : List Cell) → length (map core_cell xs) ≡ length xs
 length_map [] = refl
 length_map (x ∷ xs) = ap suc (length_map xs)
 

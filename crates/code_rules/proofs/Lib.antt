@@ -1,6 +1,6 @@
 pub mod Called
 mod OperatorLemmas
 mod PathLemmas
-mod SearchLemmas
+pub mod SearchLemmas
 mod StatementLaws
 mod TypingLaws

@@ -21,10 +21,10 @@ use Rattle.pt_core.specs.CodeTree.{numbered, view_global}
 -- ---- numbers in order
 
 -- a list's elements by their numbers
-abbrev entries : {X V : Type 0} → (X → ℕ) → (X → V) → List X → List (ℕ × V)
+abbrev pub entries : {X V : Type 0} → (X → ℕ) → (X → V) → List X → List (ℕ × V)
 entries key value xs = map (λ x. (key x, value x)) xs
 
-abbrev Rises : {X : Type 0} → (X → ℕ) → ℕ → List X → Type 0
+abbrev pub Rises : {X : Type 0} → (X → ℕ) → ℕ → List X → Type 0
 Rises key low xs = IsTrue (are_rising low (map key xs))
 
 head_is : {X : Type 0} (key : X → ℕ) (low : ℕ) (x : X) (xs : List X) → Rises key low (x ∷ xs) → low ≤ key x
@@ -69,7 +69,7 @@ found_at key value low f (y ∷ ys) (suc i) x h within is same =
     ∙ found_at key value (suc (key y)) f ys i x (rest_rises key low y ys h) (omega arith) is same
 
 -- the search ends at an entry
-found_entry : {X V : Type 0} (key : X → ℕ) (value : X → V) (f : ℕ) (xs : List X) (i : ℕ) (x : X) → Rises key 0 xs → i < length xs → HoldsAt (λ y. nat_cmp (key y) f ≡ Equal) xs i → x ≡ get_or xs i x →
+pub found_entry : {X V : Type 0} (key : X → ℕ) (value : X → V) (f : ℕ) (xs : List X) (i : ℕ) (x : X) → Rises key 0 xs → i < length xs → HoldsAt (λ y. nat_cmp (key y) f ≡ Equal) xs i → x ≡ get_or xs i x →
     lookup (nat_eq f) (entries key value xs) ≡ Some (value x)
 found_entry key value f xs i x h within equal is = found_at key value 0 f xs i x h within is (ap key is ∙ ranked (key (get_or xs i x)) f Equal (sym (equal x)))
 
@@ -80,7 +80,7 @@ none_by key value f (y ∷ ys) other =
     ∙ none_by key value f ys (λ i d within. other (suc i) d (omega arith))
 
 -- or between those that are less and those that are greater
-no_entry : {X V : Type 0} (key : X → ℕ) (value : X → V) (f : ℕ) (xs : List X) (i : ℕ) → Rises key 0 xs
+pub no_entry : {X V : Type 0} (key : X → ℕ) (value : X → V) (f : ℕ) (xs : List X) (i : ℕ) → Rises key 0 xs
     → (IsNonDecreasingBy (λ y. ordering_index (nat_cmp (key y) f)) xs → IsPartitionPoint (λ y. nat_cmp (key y) f ≡ Less) (λ y. nat_cmp (key y) f ≡ Greater) xs i)
     → lookup (nat_eq f) (entries key value xs) ≡ None
 no_entry key value f xs i h parted =

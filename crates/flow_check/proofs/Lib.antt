@@ -1,5 +1,5 @@
 pub mod LineLemmas
 mod NumberLemmas
 pub mod OneOutcome
-mod ShownLemmas
+pub mod ShownLemmas
 mod Worked

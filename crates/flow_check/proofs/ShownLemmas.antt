@@ -164,10 +164,10 @@ module _ (t : TypedTree) (a : Accepted) (is : IsAccepted t a) where
       (slaves_is t a.sides is.sides (owner n) (subst (IsSlaves t) (sym (same_owner n)) shown.slaves))
       ((privileged a.sides.seeds (edges_of_all t a.sides) (length (slots_of t)) a.marks is.marks n shown.within).1 shown.privileged)
 
-  abbrev picked : List ℕ
+  abbrev pub picked : List ℕ
   picked = filter (is_kept a owned) (range_with_len 0 (length (slots_of t)))
 
-  picked_shown : (n : ℕ) → Contains picked n ↔ IsShown t a.sides n
+  pub picked_shown : (n : ℕ) → Contains picked n ↔ IsShown t a.sides n
   picked_shown n = (
     (λ h. let there = from_filter (is_kept a owned) (range_with_len 0 (length (slots_of t))) n h in kept_shown n (range_below (length (slots_of t)) n there.0) there.1),
     (λ shown. contains_filter (is_kept a owned) (range_with_len 0 (length (slots_of t))) n (range_contains (length (slots_of t)) n shown.within) (shown_kept n shown)),

@@ -19,7 +19,7 @@ use Rattle.pt_base.proofs.SortedLists.{ascending, ascends, from_ascending, in_as
 use Rattle.pt_base.proofs.Members.{contains_cases, contains_first, contains_later, contains_nothing}
 use Rattle.flow_law.specs.FaultsLaws.{FindingsAreTold, HasSomeFaults}
 use Rattle.flow_law.proofs.FaultOrder.{fault_total, ties_tell}
-use Rattle.flow_law.proofs.FaultsPrivFindings.{all_findings}
+use Rattle.flow_rules.proofs.PrivLemmas.{all_findings}
 
 module _ (t : TypedTree) (s : Sides) (marks : Shown) (are : AreMarks s.seeds (edges_of_all t s) (length (slots_of t)) marks) where
   -- ---- ways

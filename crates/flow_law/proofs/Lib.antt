@@ -5,6 +5,5 @@ mod SlotsVecLists
 mod SlotsCounts
 mod SlotsTables
 pub mod SlotsAllSides
-mod FaultsPrivFindings
 mod FaultOrder
 pub mod FaultsTold

@@ -34,7 +34,7 @@ use Rattle.flow_rules.specs.Kept.{first_of, kept}
 use Rattle.flow_rules.specs.Secrets.{Flows, secret_slots, secrets_of, unmarked_leaves, value_leaves}
 use Rattle.flow_rules.specs.Told.{AllShownPriv}
 
-abbrev AllPriv : Flows → List Finding → Type 0
+abbrev pub AllPriv : Flows → List Finding → Type 0
 AllPriv p xs = (x : Finding) → Contains xs x → (s : ℕ) → Contains x.slots s → p.is_priv s ≡ true
 
 -- ---- lists of findings
@@ -159,7 +159,7 @@ globals p =
     both p (objects_findings p (map (λ x. x.var) p.tree.globals) (global_objects p.tree)) (shared_globals p 0 p.tree.globals)
     (objects p (map (λ x. x.var) p.tree.globals) (global_objects p.tree)) (shared p 0 p.tree.globals)
 
-all_findings : (p : Flows) → AllPriv p (findings_of p)
+pub all_findings : (p : Flows) → AllPriv p (findings_of p)
 unfolding findings_of
 all_findings p =
     both p (flat_map (slave_findings p) p.slave ++ flat_map (monitor_findings p) p.monitor) (global_findings p ++ flat_map function_findings p.tree.functions)

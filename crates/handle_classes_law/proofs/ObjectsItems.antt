@@ -1,5 +1,5 @@
 -- The cells of objects and their leaves.
-use Rattle.std.proofs.Common.{◌≡◌, ◌∙◌, ◌≤◌, ◌<◌, ℕ, zero, suc, ◌+◌, ◌*◌, refl, ap, sym, subst, arith, true, Option, Some, None, List, [], ◌∷◌, ◌++◌, length, length-append, map}
+use Rattle.std.proofs.Common.{◌≡◌, ◌∙◌, ◌≤◌, ◌<◌, ℕ, zero, suc, ◌+◌, ◌*◌, refl, ap, sym, subst, arith, Bool, true, Option, Some, None, List, [], ◌∷◌, ◌++◌, length, length-append, map}
 use Rattle.std.specs.Prelude.{slice_get, get_or, nat_lt, nat_le, take}
 use Rattle.std.specs.List.{list_all, flat_map}
 use Rattle.std.proofs.lemmas.Bool.Decides.{nat_tests}
@@ -358,10 +358,15 @@ unfolding leaves_of
 elem_below structs m w s (e.Int t) h is = both_hold (nat_lt s (s + 1)) true (nat_lt_next s) refl
 elem_below structs m w s (e.Struct n) h is = h s n (grind (arith, nat_tests, is))
 
-same_array : (structs : List StructInfo) (elem : Elem) (count : ℕ) → leaf_count structs (Array elem count) ≡ leaf_count structs (type_of_elem elem)
+pub pointer_leaves : (structs : List StructInfo) (elem : Elem) (fixed : Bool) → leaf_count structs (Pointer elem fixed) ≡ leaf_count structs (type_of_elem elem)
 unfolding leaves_of
-same_array structs (e.Int t) count = refl
-same_array structs (e.Struct n) count = refl
+pointer_leaves structs (e.Int t) fixed = refl
+pointer_leaves structs (e.Struct n) fixed = refl
+
+pub array_leaves : (structs : List StructInfo) (elem : Elem) (count : ℕ) → leaf_count structs (Array elem count) ≡ leaf_count structs (type_of_elem elem)
+unfolding leaves_of
+array_leaves structs (e.Int t) count = refl
+array_leaves structs (e.Struct n) count = refl
 
 type_below : (structs : List StructInfo) (m : ℕ) (w : Within) (s : ℕ) (ty : VarTy) → StayBelow structs m w → is_plain_type m ty ≡ true → AreBelow (s + leaf_count structs ty) (type_items w s ty)
 unfolding leaves_of
@@ -369,7 +374,7 @@ type_below structs m w s (Int t) h is = both_hold (nat_lt s (s + 1)) true (nat_l
 type_below structs m w s (Struct n) h is = h s n (grind (arith, nat_tests, is))
 type_below structs m w s (Array elem count) h is =
     repeated_below (s + leaf_count structs (Array elem count)) count (elem_items w s elem)
-    (subst (λ z. AreBelow (s + z) (elem_items w s elem)) (sym (same_array structs elem count)) (elem_below structs m w s elem h (both_hold_first (is_elem m (Some elem)) (nat_le 1 count) is)))
+    (subst (λ z. AreBelow (s + z) (elem_items w s elem)) (sym (array_leaves structs elem count)) (elem_below structs m w s elem h (both_hold_first (is_elem m (Some elem)) (nat_le 1 count) is)))
 type_below structs m w s (Pointer elem fixed) h is = false_not_true is
 
 fields_below : (structs : List StructInfo) (m : ℕ) (w : Within) (s : ℕ) (fs : List Field) → StayBelow structs m w → list_all (field_sound structs m) fs ≡ true → AreBelow (s + all_leaves structs fs) (fields_items (leaf_count structs) w s fs)

@@ -132,7 +132,7 @@ scalar_room b (Struct n) slots h k = false_not_true h
 scalar_room b (Array elem count) slots h k = false_not_true h
 scalar_room b (Pointer elem fixed) slots h k = false_not_true (sym k)
 
-no_pointer : {X : Type 0} (p : Bool) → p ≡ false → p ≡ true → X
+pub no_pointer : {X : Type 0} (p : Bool) → p ≡ false → p ≡ true → X
 no_pointer p h k = false_not_true (sym h ∙ k)
 
 pub number_by : (b : Bench) (ty : VarTy) (slots : List ℕ) (c : Class) → is_int ty ≡ true → c.pointer ≡ false → c.size ≡ 1 → c.may 0 ≡ false → IsBy c (at_slots b ty slots)
@@ -194,7 +194,7 @@ read_is b ty slots p scalar h = record {
 
 -- ---- what a temporary holds
 
-kept_of : Bool → Class → Class
+unfoldable pub kept_of : Bool → Class → Class
 kept_of x c = if x then c else record c { must = c.may }
 
 pub kept_goes : (v k : Class) → IsBy v k → (k.pointer ≡ false → 0 < k.size) → Goes v (kept_class k)

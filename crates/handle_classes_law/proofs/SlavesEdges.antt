@@ -27,7 +27,7 @@ closed_rest m [] ys h = h
 closed_rest m (x ∷ xs) ys h = closed_rest m xs ys h.1
 
 -- one of two
-either : {R : Type 0} (a c : Bool) → (a || c) ≡ true → (a ≡ true → R) → (c ≡ true → R) → R
+pub either : {R : Type 0} (a c : Bool) → (a || c) ≡ true → (a ≡ true → R) → (c ≡ true → R) → R
 either true c h f g = f refl
 either false c h f g = g h
 

@@ -23,6 +23,7 @@ use Rattle.typed_tree.specs.WellFormedExpression.{ty_of}
 use Rattle.typed_tree.specs.declared.types.VarTy.{VarTy}
 use Rattle.typed_tree.specs.declared.types.VarTy.TheVariants.{Array, Int, Pointer, Struct}
 use Rattle.handle_classes_law.proofs.SlavesBench.{Bench, PlainIf, seen}
+use Rattle.handle_classes_law.proofs.SlavesEdges.{either}
 use Rattle.handle_classes_law.proofs.SlavesQuiet.{ChangedPlain, ChangesPlain}
 use Rattle.handle_classes_law.specs.SlavesMarked.{slave_world}
 
@@ -58,10 +59,6 @@ in_range start (suc n) (suc j) less = or_right (nat_eq (start + suc j) start) (h
     or_right : (a c : Bool) → c ≡ true → (a || c) ≡ true
     or_right true c h = refl
     or_right false c h = h
-
-pub either : {R : Type 0} (a c : Bool) → (a || c) ≡ true → (a ≡ true → R) → (c ≡ true → R) → R
-either true c h f g = f refl
-either false c h f g = g h
 
 -- what passes the test stays
 pub in_filter : (test : ℕ → Bool) (xs : List ℕ) (j : ℕ) → test j ≡ true → has xs j ≡ true → has (filter test xs) j ≡ true

@@ -28,13 +28,14 @@ use Rattle.typed_tree.proofs.SameTypes.{equal_options}
 use Rattle.handle_classes.specs.Classes.{Class, number_class, class_of, place_class, element_cells}
 use Rattle.lowering.specs.Expressions.{arm}
 use Rattle.std.specs.List.{list_any, list_all}
-use Rattle.pt_base.proofs.Booleans.{and_true_first, and_true_second, false_not_true}
+use Rattle.std.proofs.lemmas.List.Folds.{list_all-append, list_any-append}
+use Rattle.pt_base.proofs.Booleans.{and_true_first, and_true_second, false_not_true, or_with_true}
 use Rattle.lowered_code_law.proofs.FormsPlaces.{elem_of_type}
 use Rattle.handle_classes.specs.Judgment.{IsFine, IsFinePlace, HasElements, IsAnArray, Goes}
 use Rattle.handle_classes_law.specs.ObjectsCells.{is_pointer}
 use Rattle.handle_classes_law.specs.SlavesMarked.{kept_class}
 use Rattle.handle_classes_law.proofs.SlavesClasses.{IsBy, PlaceClass, at_equal, deref_class, address_class, decay_class, array_alike, elem_pointee, elem_size}
-use Rattle.handle_classes_law.proofs.SlavesBench.{Bench, judged, at_slots, IsObject, AreFine, fine_both, ValueIs, LoweredIs, is_int, scalar_room, number_by, PlainIf, plain_value, as_int_fine}
+use Rattle.handle_classes_law.proofs.SlavesBench.{Bench, judged, kept_of, at_slots, IsObject, AreFine, fine_both, ValueIs, LoweredIs, is_int, scalar_room, number_by, PlainIf, plain_value, as_int_fine}
 
 -- ---- types
 
@@ -287,9 +288,6 @@ pub record Into (k more : Class) : Type 0 where
   pub may : (n : ℕ) → k.may n ≡ true → more.may n ≡ true
   pub must : (n : ℕ) → more.must n ≡ true → k.must n ≡ true
 
-kept_of : Bool → Class → Class
-kept_of x c = if x then c else record c { must = c.may }
-
 pub kept_more : (v k more : Class) → IsBy v k → Into k more → (more.pointer ≡ false → 0 < more.size) → Goes v (kept_class more)
 unfolding kept_of
 kept_more v k more h into room = go more.pointer refl
@@ -310,32 +308,16 @@ kept_more v k more h into room = go more.pointer refl
     go false is = record { kind = h.kind ∙ into.kind; room = room; sealed = λ q m. into.may 0 (h.number (into.kind ∙ q) m); flows = λ p. false_not_true (sym is ∙ p) }
 
 some_first : (f : ℕ → Bool) (xs ys : List ℕ) → list_any f xs ≡ true → list_any f (xs ++ ys) ≡ true
-some_first f [] ys h = false_not_true h
-some_first f (x ∷ xs) ys h = go (λ k. some_first f xs ys k) (f x) h
-  where
-    go : (list_any f xs ≡ true → list_any f (xs ++ ys) ≡ true) → (c : Bool) → (c || list_any f xs) ≡ true → (c || list_any f (xs ++ ys)) ≡ true
-    go more true k = refl
-    go more false k = more k
+some_first f xs ys h = list_any-append f xs ys ∙ ap (λ z. z || list_any f ys) h
 
 some_second : (f : ℕ → Bool) (xs ys : List ℕ) → list_any f ys ≡ true → list_any f (xs ++ ys) ≡ true
-some_second f [] ys h = h
-some_second f (x ∷ xs) ys h = go (some_second f xs ys h) (f x)
-  where
-    go : list_any f (xs ++ ys) ≡ true → (c : Bool) → (c || list_any f (xs ++ ys)) ≡ true
-    go more true = refl
-    go more false = more
+some_second f xs ys h = list_any-append f xs ys ∙ ap (λ z. list_any f xs || z) h ∙ or_with_true (list_any f xs)
 
 every_first : (f : ℕ → Bool) (xs ys : List ℕ) → list_all f (xs ++ ys) ≡ true → list_all f xs ≡ true
-every_first f [] ys h = refl
-every_first f (x ∷ xs) ys h = both (f x) (list_all f xs) (and_true_first (f x) (list_all f (xs ++ ys)) h) (every_first f xs ys (and_true_second (f x) (list_all f (xs ++ ys)) h))
-  where
-    both : (a c : Bool) → a ≡ true → c ≡ true → (a && c) ≡ true
-    both true c h k = k
-    both false c h k = h
+every_first f xs ys h = and_true_first (list_all f xs) (list_all f ys) (sym (list_all-append f xs ys) ∙ h)
 
 every_second : (f : ℕ → Bool) (xs ys : List ℕ) → list_all f (xs ++ ys) ≡ true → list_all f ys ≡ true
-every_second f [] ys h = h
-every_second f (x ∷ xs) ys h = every_second f xs ys (and_true_second (f x) (list_all f (xs ++ ys)) h)
+every_second f xs ys h = and_true_second (list_all f xs) (list_all f ys) (sym (list_all-append f xs ys) ∙ h)
 
 pub into_first : (b : Bench) (ty : VarTy) (xs ys : List ℕ) → Into (at_slots b ty xs) (at_slots b ty (xs ++ ys))
 into_first b ty xs ys = record { kind = refl; size = refl; may = λ n h. some_first _ xs ys h; must = λ n h. every_first _ xs ys h }

@@ -54,7 +54,7 @@ use Rattle.lowered_code_law.proofs.FormsPlaces.{variable_known}
 use Rattle.lowered_code_law.proofs.FormsPrograms.{sound_at}
 use Rattle.lowered_code_law.proofs.FormsRules.{assign_rules}
 use Rattle.lowered_code_law.proofs.FormsStatements.{tests}
-use Rattle.handle_classes_law.proofs.ObjectsItems.{all_leaves, fields_sound, items_below, struct_leaves}
+use Rattle.handle_classes_law.proofs.ObjectsItems.{all_leaves, array_leaves, fields_sound, items_below, struct_leaves}
 use Rattle.handle_classes_law.specs.SlavesLaws.{EdgesJoinSlots, JoinsSlots}
 use Rattle.handle_classes_law.proofs.SlavesBench.{Bench, seen, Fits}
 use Rattle.handle_classes_law.proofs.SlavesGround.{outer_slots}
@@ -62,7 +62,7 @@ use Rattle.handle_classes_law.proofs.SlavesInitialisers.{begins_free, returned_f
 use Rattle.handle_classes_law.proofs.SlavesKnown.{bench, inner_targets, leaf_low, once_room, outer_targets, top_of}
 use Rattle.handle_classes_law.proofs.SlavesPrograms.{bench_fits, bench_rooms}
 use Rattle.handle_classes_law.proofs.SlavesSlots.{result_within}
-use Rattle.handle_classes_law.proofs.SlavesWithin.{AllRoom, IsRight, NoArgument, Rooms, array_leaves, carried_room, count, form_right, int_leaf, kept_free, operated_free, place_room}
+use Rattle.handle_classes_law.proofs.SlavesWithin.{AllRoom, IsRight, NoArgument, Rooms, carried_room, count, form_right, int_leaf, kept_free, operated_free, place_room}
 
 -- ---- edges
 

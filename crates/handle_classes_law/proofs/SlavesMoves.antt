@@ -20,7 +20,7 @@ use Rattle.flow_edges.specs.Edges.{moved_to}
 use Rattle.handle_classes.specs.Classes.{Class}
 use Rattle.handle_classes.specs.Judgment.{Flows, Goes, Copies}
 use Rattle.handle_classes_law.specs.ObjectsCells.{is_pointer, leaf_under}
-use Rattle.handle_classes_law.proofs.ObjectsItems.{leaves_are_own}
+use Rattle.handle_classes_law.proofs.ObjectsItems.{leaves_are_own, pointer_leaves}
 use Rattle.handle_classes_law.proofs.SlavesClasses.{IsBy, IsAt}
 use Rattle.handle_classes_law.proofs.SlavesBench.{Bench, seen, at_slots, scalar_room}
 use Rattle.handle_classes_law.proofs.SlavesEdges.{Moves, moved_on, moved_back, any_of_each, all_of_each}
@@ -39,11 +39,6 @@ backward b a z ys j h is points less some =
 pub elem_plain : (n : ℕ) (elem : Elem) → is_elem n (Some elem) ≡ true → is_plain_type n (type_of_elem elem) ≡ true
 elem_plain n (e.Int t) h = refl
 elem_plain n (e.Struct k) h = h
-
-pointer_leaves : (structs : List StructInfo) (elem : Elem) (fixed : Bool) → leaf_count structs (Pointer elem fixed) ≡ leaf_count structs (type_of_elem elem)
-unfolding leaves_of
-pointer_leaves structs (e.Int t) fixed = refl
-pointer_leaves structs (e.Struct n) fixed = refl
 
 pub own_leaf : (structs : List StructInfo) (z : VarTy) (n : ℕ) → structs_sound structs 0 structs ≡ true → is_variable_type (length structs) z ≡ true → n < cells_by (sizes_of structs) (pointee_type z) → leaf_under structs (pointee_type z) n < leaf_count structs z
 own_leaf structs (Int t) n sound known less = leaves_are_own structs (Int t) n sound refl less

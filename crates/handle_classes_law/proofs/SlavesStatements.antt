@@ -31,7 +31,7 @@ use Rattle.typed_tree.specs.declared.statement.TypedLabel.{TypedLabel}
 use Rattle.typed_tree.specs.declared.statement.TypedLabel.TheVariants.{Case, Default}
 use Rattle.typed_tree.specs.declared.types.VarTy.{VarTy}
 use Rattle.typed_tree.specs.declared.types.VarTy.TheVariants.{Array, Int, Pointer, Struct}
-use Rattle.handle_classes_law.proofs.SlavesBench.{AreFine, Bench, LoweredIs, PlainIf, ValueIs, as_int_fine, at_slots, fine_both, fine_trees, hold_is, judged, number_by, plain_value, seen, temp_is}
+use Rattle.handle_classes_law.proofs.SlavesBench.{AreFine, Bench, LoweredIs, PlainIf, ValueIs, as_int_fine, at_slots, fine_both, fine_trees, hold_is, judged, no_pointer, number_by, plain_value, seen, temp_is}
 use Rattle.handle_classes_law.proofs.SlavesClasses.{IsBy}
 use Rattle.handle_classes_law.proofs.SlavesExpressions.{value_is}
 use Rattle.handle_classes_law.proofs.SlavesGround.{Counts, Ground, Has, all_at, choose_fine, condition_fine, condition_plain, condition_quiet, dropped_fine, followed_fine, has_first, has_rest, has_three, number_held, one_more, plain_test}
@@ -145,9 +145,6 @@ chosen_fine b n ty slots v a d plain h i j has =
     let yes = i (has_first b (past n v.temps) a.temps d.temps rest) in
     let no = j (has_rest b (past n v.temps) a.temps d.temps rest) in
     one_more b v.stmts (choose v.value (stmt_trees a.stmts) (stmt_trees d.stmts)) test.stmts (choose_fine b ty slots v.value a.stmts d.stmts plain test.value yes no)
-
-no_pointer : {X : Type 0} (p : Bool) → p ≡ false → p ≡ true → X
-no_pointer p h k = false_not_true (sym h ∙ k)
 
 -- an integer may be what a function gives, if that may be a handle where it may
 result_flows : (v k : Class) (sealed : Bool) → IsBy v k → k.pointer ≡ false → (k.may 0 ≡ true → sealed ≡ true) → Flows v (integer_class sealed)

@@ -34,7 +34,8 @@ use Rattle.sides.specs.Carried as slots
 use Rattle.sides.specs.Carried.{carried, form_slots, links_slots, linked_slots, place_slots, root_slots, start_of}
 use Rattle.lowered_code_law.proofs.FormsRules.{array_of, object_of, pointee_of_pointer, assigned_struct, assign_rules, compound_rules, count_rules, value_type}
 use Rattle.lowered_code_law.proofs.FormsSteps.{one_type}
-use Rattle.handle_classes_law.proofs.ObjectsItems.{all_leaves, struct_leaves}
+use Rattle.handle_classes_law.proofs.ObjectsItems.{all_leaves, array_leaves, pointer_leaves, struct_leaves}
+use Rattle.handle_classes_law.proofs.SlavesPlaces.{root_seen}
 use Rattle.handle_classes_law.proofs.SlavesBench.{Bench, seen, Fits}
 
 -- ---- slots from which on so many leaves are within
@@ -68,16 +69,6 @@ room_less top k l (x ∷ xs) less h = (let a = h.0 in omega (arith, less, a), ro
 pub int_leaf : (structs : List StructInfo) (t : IntType) → leaf_count structs (Int t) ≡ 1
 unfolding leaves_of
 int_leaf structs t = refl
-
-pub pointer_leaves : (structs : List StructInfo) (elem : Elem) (fixed : Bool) → leaf_count structs (Pointer elem fixed) ≡ leaf_count structs (type_of_elem elem)
-unfolding leaves_of
-pointer_leaves structs (e.Int t) fixed = refl
-pointer_leaves structs (e.Struct n) fixed = refl
-
-pub array_leaves : (structs : List StructInfo) (elem : Elem) (count : ℕ) → leaf_count structs (Array elem count) ≡ leaf_count structs (type_of_elem elem)
-unfolding leaves_of
-array_leaves structs (e.Int t) count = refl
-array_leaves structs (e.Struct n) count = refl
 
 -- a field's leaves are among those of the struct
 field_within : (structs : List StructInfo) (start : ℕ) (fs : List Field) (k : ℕ) (x : Field) → slice_get fs k ≡ Some x → get_or (field_starts (leaf_count structs) start fs) k 0 + leaf_count structs x.ty ≤ start + all_leaves structs fs
@@ -184,13 +175,6 @@ pub record Rooms (top : ℕ) (b : Bench) : Type 0 where
 abbrev pub count : Bench → Option VarTy → ℕ
 count b o = value_count (leaf_count b.w.names.structs) o
 
--- what carries slots knows a root's type
-root_known : (root : RootTree) (b : Bench) (z : VarTy) → Fits b → root_type b.w.names root ≡ Some z → slots.root_type (seen b) root ≡ Some z
-root_known (src.local v) b z g is = ap (λ o. option_map (λ (x : Object). x.ty) o) (g.locals v.0 z is).object
-root_known (src.global v) b z g is = ap (λ o. option_map (λ (x : Object). x.ty) o) (g.globals v.0 z is).object
-root_known (src.deref a s) b z g is = is
-root_known (src.assigned a) b z g is = is
-
 -- ---- chains
 
 moved_same : (pointer by : Option VarTy) (to : VarTy) → r.moved_type pointer by ≡ Some to → pointer ≡ Some to
@@ -255,7 +239,7 @@ from_root : (b : Bench) (root : RootTree) (steps : StepTrees) (top : ℕ) (z : V
     (o : Option VarTy) → root_type b.w.names root ≡ o → steps_type b.w.names.structs o steps ≡ Some z → AllRoom top (leaf_count b.w.names.structs z) (place_slots (seen b) (src.place root steps))
 from_root b root steps top z g room None e is = nowhere b.w.names.structs steps z is
 from_root b root steps top z g room (Some w) e is =
-    subst (λ o. AllRoom top (leaf_count b.w.names.structs z) (map (λ x. x + slots.steps_offset b.w.names.structs o steps) (root_slots (seen b) root))) (sym (root_known root b w g e))
+    subst (λ o. AllRoom top (leaf_count b.w.names.structs z) (map (λ x. x + slots.steps_offset b.w.names.structs o steps) (root_slots (seen b) root))) (sym (root_seen root b w g e))
     (room_behind top (leaf_count b.w.names.structs z) (leaf_count b.w.names.structs w) (slots.steps_offset b.w.names.structs (Some w) steps) (root_slots (seen b) root) (steps_room b.w.names.structs steps w z g.agrees.structs is) (room w e))
 
 -- ---- by induction

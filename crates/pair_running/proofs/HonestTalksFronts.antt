@@ -16,7 +16,7 @@ spellings xs = flat_map spelling xs
 abbrev pub AreFront : List ℕ → List Message → Type 0
 AreFront bytes xs = (more : List ℕ) × (spellings xs ≡ bytes ++ more)
 
-no_bytes : IsUnfinished []
+pub no_bytes : IsUnfinished []
 no_bytes = inl (omega arith)
 
 none_left : (bytes more : List ℕ) → [] ≡ bytes ++ more → bytes ≡ []
@@ -42,7 +42,7 @@ next_is x bytes left (y ∷ ys) spelled front b =
 
 -- ---- no frame is a bad one
 
-longer_bad : (bytes more : List ℕ) → BeginsBad bytes → BeginsBad (bytes ++ more)
+pub longer_bad : (bytes more : List ℕ) → BeginsBad bytes → BeginsBad (bytes ++ more)
 longer_bad bytes more bad =
     let body : List ℕ = bad.frame.body in
     let front : List ℕ = four_bytes (length body) in
@@ -56,7 +56,7 @@ longer_bad bytes more bad =
       no_message = bad.no_message;
     }
 
-longer_long : (bytes more : List ℕ) → BeginsTooLong bytes → BeginsTooLong (bytes ++ more)
+pub longer_long : (bytes more : List ℕ) → BeginsTooLong bytes → BeginsTooLong (bytes ++ more)
 longer_long bytes more long = record { size = long.size; rest = long.rest ++ more; are = ap (λ l. l ++ more) long.are ∙ append_assoc (four_bytes long.size) long.rest more; fits = long.fits; over = long.over }
 
 pub never_bad : (bytes : List ℕ) (xs : List Message) → AllAreSpelled xs → AreFront bytes xs → BeginsBad bytes → ⊥

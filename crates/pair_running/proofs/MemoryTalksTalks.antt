@@ -8,7 +8,7 @@ use Rattle.wire.specs.declared.message.Message.{Message}
 use Rattle.wire.specs.declared.message.ReplyBody.{ReplyBody}
 use Rattle.wire.specs.Frames.{IsUnfinished, BeginsBad, BeginsTooLong, Begins, open_end, bad_frame_at, too_long_at}
 use Rattle.wire.specs.Limits.{Spells}
-use Rattle.wire.specs.Spelling.{four_bytes, spelling}
+use Rattle.wire.specs.Spelling.{spelling}
 use Rattle.wire.proofs.StreamLaws.{same_message, stops_no_message, frame_not_unfinished, too_long_not_unfinished}
 use Rattle.pair_protocol.specs.Links.{Half, half}
 use Rattle.pair_protocol.specs.Pair.{Who, parents, going_with, Pair, goes, replied, pair_from, start, IsWholeFrom}
@@ -26,6 +26,7 @@ use Rattle.pair_meaning.specs.LinkTalks.{Side, begun, Gives, Runs}
 use Rattle.pair_running.specs.MemoryTalksLaws.{TalksAreWhole, ComesToAnEnd, TalksEnd}
 use Rattle.pair_running.proofs.MemoryTalksHanding.{IsEarlier, Rests, ended, handed, rests_on, steps_append, whole_moves}
 use Rattle.pair_running.proofs.MemoryTalksHearing.{boot_heard, reply_heard}
+use Rattle.pair_running.proofs.HonestTalksFronts.{longer_bad, longer_long, no_bytes}
 
 -- ---- what the pair comes to
 
@@ -70,9 +71,6 @@ pair_at {s = s} (inr within) m written = served_so s.slave_half written (serve m
 
 -- ---- frames
 
-no_bytes : IsUnfinished []
-no_bytes = inl (omega arith)
-
 no_message : (x : Message) (bytes left : List ℕ) → Begins x bytes left → bytes ≡ [] → ⊥
 no_message x bytes left b none = stops_no_message open_end 0 [] x left no_bytes (subst (λ l. Begins x l left) none b)
 
@@ -99,23 +97,6 @@ is_said {bytes} {s} x left w b =
     let longer : Begins x (bytes ++ s.rest) (left ++ s.rest) = record { spelled = b.spelled; are = ap (λ l. l ++ s.rest) b.are ∙ append_assoc (spelling x) left s.rest } in
     let one = same_message x w.said (bytes ++ s.rest) (left ++ s.rest) [] longer (whole w) in
     record { same = one.0; between = both_empty left s.rest one.1 }
-
-longer_bad : (bytes more : List ℕ) → BeginsBad bytes → BeginsBad (bytes ++ more)
-longer_bad bytes more bad =
-    let body : List ℕ = bad.frame.body in
-    let front : List ℕ = four_bytes (length body) in
-    record {
-      frame = record {
-        body = body;
-        rest = bad.frame.rest ++ more;
-        are = ap (λ l. l ++ more) bad.frame.are ∙ append_assoc front (body ++ bad.frame.rest) more ∙ ap (λ l. front ++ l) (append_assoc body bad.frame.rest more);
-        in_range = bad.frame.in_range;
-      };
-      no_message = bad.no_message;
-    }
-
-longer_long : (bytes more : List ℕ) → BeginsTooLong bytes → BeginsTooLong (bytes ++ more)
-longer_long bytes more long = record { size = long.size; rest = long.rest ++ more; are = ap (λ l. l ++ more) long.are ∙ append_assoc (four_bytes long.size) long.rest more; fits = long.fits; over = long.over }
 
 -- a link gives no bad frame, and none that is too long
 never_bad : {bytes : List ℕ} {s : Side} → IsAt bytes s → BeginsBad bytes → ⊥

@@ -34,6 +34,7 @@ use Rattle.source_meaning.proofs.SizeLemmas.{sizes}
 use Rattle.source_soundness.specs.Worlds.{World, type_in, depth_of, IsScoped, Fits, ValueFits}
 use Rattle.source_soundness.specs.Laws.{ArgumentsFit, CallsFit, IsWorldOf, main_world}
 use Rattle.source_soundness.specs.Sizes.{object_cells, PointsWithin, Sized, KeepsSizes, ValueSized, ArgumentsSized, CallsKeepSizes, DeepCallsKeepSizes, ProgramsBeginSized}
+use Rattle.source_soundness.proofs.Memories.{type_is}
 use Rattle.source_soundness.proofs.Operators.{scoped_of_pointer}
 use Rattle.source_soundness.proofs.CallSoundness.{deeper, still_live, newly_live, live_depth, Leads, leads, entered_fits}
 use Rattle.source_soundness.proofs.ProgramFacts.{Facts, facts, globals_are_plain}
@@ -70,16 +71,13 @@ param_size : (ss : List ℕ) (kind : ParamKind) (c : Cell) → length (c ∷ [])
 param_size ss (k.Int t) c = refl
 param_size ss (k.Ptr elem fixed) c = refl
 
-same_some : (a b : VarTy) → Some a ≡ Some b → a ≡ b
-same_some a b h = cc
-
 frame_length : (ss : List ℕ) (w : World) (types : List VarTy) (ps : List Param) (vs : List Value) (x : ℕ) (ty : VarTy) → Leads ps types → ArgumentsFit w ps vs → slice_get types x ≡ Some ty → length (get_or (frame_cells ss types vs) x []) ≡ object_cells ss ty
 frame_length ss w [] ps vs x ty lead args is = cc
-frame_length ss w (t ∷ types) [] [] zero ty lead args is = cleared_length ss t ∙ ap (object_cells ss) (same_some t ty is)
+frame_length ss w (t ∷ types) [] [] zero ty lead args is = cleared_length ss t ∙ ap (object_cells ss) (type_is t ty is)
 frame_length ss w (t ∷ types) [] [] (suc x) ty lead args is = frame_length ss w types [] [] x ty tt tt is
 frame_length ss w (t ∷ types) [] (v ∷ vs) x ty lead args is = absurd args
 frame_length ss w (t ∷ types) (p ∷ ps) [] x ty lead args is = absurd args
-frame_length ss w (t ∷ types) (p ∷ ps) (v ∷ vs) zero ty lead args is = param_size ss p.kind (cell_of v) ∙ ap (object_cells ss) (lead.0 ∙ same_some t ty is)
+frame_length ss w (t ∷ types) (p ∷ ps) (v ∷ vs) zero ty lead args is = param_size ss p.kind (cell_of v) ∙ ap (object_cells ss) (lead.0 ∙ type_is t ty is)
 frame_length ss w (t ∷ types) (p ∷ ps) (v ∷ vs) (suc x) ty lead args is = frame_length ss w types ps vs x ty lead.1 args.1 is
 
 argument_points : (w : World) (all : List VarTy) (ss : List ℕ) (kind : ParamKind) (v : Value) (elem : Elem) (fixed : Bool) → param_type kind ≡ Pointer elem fixed → ValueFits w (Some (param_type kind)) v → ValueSized w ss (Some (param_type kind)) v → PointsWithin (deeper w all) ss elem (cell_of v)
@@ -97,7 +95,7 @@ frame_points w all ss (t ∷ types) [] [] zero elem fixed lead args size is = cl
 frame_points w all ss (t ∷ types) [] [] (suc x) elem fixed lead args size is = frame_points w all ss types [] [] x elem fixed tt tt tt is
 frame_points w all ss (t ∷ types) [] (v ∷ vs) x elem fixed lead args size is = absurd args
 frame_points w all ss (t ∷ types) (p ∷ ps) [] x elem fixed lead args size is = absurd args
-frame_points w all ss (t ∷ types) (p ∷ ps) (v ∷ vs) zero elem fixed lead args size is = argument_points w all ss p.kind v elem fixed (lead.0 ∙ same_some t (Pointer elem fixed) is) args.0 size.0
+frame_points w all ss (t ∷ types) (p ∷ ps) (v ∷ vs) zero elem fixed lead args size is = argument_points w all ss p.kind v elem fixed (lead.0 ∙ type_is t (Pointer elem fixed) is) args.0 size.0
 frame_points w all ss (t ∷ types) (p ∷ ps) (v ∷ vs) (suc x) elem fixed lead args size is = frame_points w all ss types ps vs x elem fixed lead.1 args.1 size.1 is
 
 below : (d n : ℕ) → d ≤ suc n → nat_eq d (suc n) ≡ false → d ≤ n
@@ -289,7 +287,7 @@ global_size structs x h =
 
 entry_type : (xs : List TypedGlobal) (g : ℕ) (ty : VarTy) → slice_get (map (λ (x : TypedGlobal). x.var.ty) xs) g ≡ Some ty → (x : TypedGlobal) × (slice_get xs g ≡ Some x) × (x.var.ty ≡ ty)
 entry_type [] g ty is = cc
-entry_type (x ∷ xs) zero ty is = (x, refl, same_some x.var.ty ty is)
+entry_type (x ∷ xs) zero ty is = (x, refl, type_is x.var.ty ty is)
 entry_type (x ∷ xs) (suc g) ty is = entry_type xs g ty is
 
 outer_sized : (program : TypedTree) → Facts program → Sized (outer_world program) (sizes_of program.structs) (with_globals nothing_live 0 program.globals)

@@ -65,7 +65,10 @@ put_fits w m b cells h k other ty is = go (same_block other b) refl
     go true e = let same = equal_blocks other b e in subst (λ x. CellsFit w (depth_of x) ty cells) (sym same) (k ty (sym (ap (type_in w) same) ∙ is))
     go false e = h other ty is
 
-same_type_in : (w : World) (b : Block) (s t : VarTy) → type_in w b ≡ Some s → type_in w b ≡ Some t → s ≡ t
+pub type_is : (a b : VarTy) → Some a ≡ Some b → a ≡ b
+type_is a b h = cc
+
+pub same_type_in : (w : World) (b : Block) (s t : VarTy) → type_in w b ≡ Some s → type_in w b ≡ Some t → s ≡ t
 same_type_in w b s t h k = cc
 
 -- a number goes into an object that is no pointer variable

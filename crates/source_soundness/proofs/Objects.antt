@@ -11,7 +11,7 @@ use Rattle.source_meaning.specs.State.{State}
 use Rattle.source_meaning.specs.Values.{Value, holds, whole, nothing, Location}
 use Rattle.source_meaning.specs.Expressions.{Context, sizes, loaded, cells_at, stored_in}
 use Rattle.source_soundness.specs.Worlds.{World, type_in, depth_of, is_pointer, IsScoped, CellsFit, Fits, ValueFits, PartFits, LocationFits}
-use Rattle.source_soundness.proofs.Memories.{numbers_get, numbers_take, numbers_drop, numbers_in, put_fits, number_written, numbers_written}
+use Rattle.source_soundness.proofs.Memories.{numbers_get, numbers_take, numbers_drop, numbers_in, put_fits, number_written, numbers_written, type_is}
 
 -- a part that is no pointer lies in an object that is none
 pub plain_part : (cell : ℕ) (in_ ty : VarTy) → PartFits cell in_ ty → is_pointer ty ≡ false → is_pointer in_ ≡ false
@@ -66,12 +66,9 @@ loaded_as w c at st in_ (Pointer elem fixed) h live low part v =
     let held = held_pointer w st.memory at.block at.cell (Pointer elem fixed) in_ h live p refl in
     (held.0, ap holds (first_of (st.memory at.block) at.cell held.0 held.1 p.first), scoped_up w (depth_of at.block) w.depth held.0 low held.2)
 
-some_injective : (a b : VarTy) → Some a ≡ Some b → a ≡ b
-some_injective a b h = cc
-
 pub loaded_fits : (w : World) (c : Context) (at : Location) (st : State) (ty : VarTy) → LocationFits w (Some ty) at → IsTrue (is_value (Some ty)) → Fits w st.memory → ValueFits w (Some ty) (loaded c at at.ty st)
 loaded_fits w c at st ty l v h =
-    let same = some_injective ty at.ty l.has in
+    let same = type_is ty at.ty l.has in
     subst (λ t. ValueFits w (Some t) (loaded c at at.ty st)) (sym same) (loaded_as w c at st l.in_ at.ty h l.live l.shallow l.part (subst (λ t. IsTrue (is_value (Some t))) same v))
 
 -- what is stored is of the object's type
@@ -87,9 +84,9 @@ stored_as w m at v in_ (Pointer elem fixed) h live part own fit =
     let held = held_pointer w m at.block at.cell (Pointer elem fixed) in_ h live p refl in
     subst (λ x. Fits w (stored_in m at x)) (sym fit.1)
     (put_fits w m at.block (slice_set (m at.block) at.cell fit.0) h
-    (λ ty is. subst (λ t. CellsFit w (depth_of at.block) t (slice_set (m at.block) at.cell fit.0)) (some_injective (Pointer elem fixed) ty (sym (live ∙ ap Some p.whole_is) ∙ is))
+    (λ ty is. subst (λ t. CellsFit w (depth_of at.block) t (slice_set (m at.block) at.cell fit.0)) (type_is (Pointer elem fixed) ty (sym (live ∙ ap Some p.whole_is) ∙ is))
     (fit.0, set_first (m at.block) at.cell held.0 fit.0 held.1 p.first, subst (λ d. IsScoped w d fit.0) (sym (own refl)) fit.2)))
 
 pub stored_fits : (w : World) (m : Memory) (at : Location) (v : Value) (ty : VarTy) → LocationFits w (Some ty) at → ValueFits w (Some ty) v → Fits w m → Fits w (stored_in m at v)
 stored_fits w m at v ty l fit h =
-    stored_as w m at v l.in_ at.ty h l.live l.part l.own (subst (λ t. ValueFits w (Some t) v) (some_injective ty at.ty l.has) fit)
+    stored_as w m at v l.in_ at.ty h l.live l.part l.own (subst (λ t. ValueFits w (Some t) v) (type_is ty at.ty l.has) fit)

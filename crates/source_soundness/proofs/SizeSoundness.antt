@@ -35,6 +35,7 @@ use Rattle.source_soundness.specs.Worlds.{World, Fits, ValueFits, LocationFits}
 use Rattle.source_soundness.specs.Laws.{Keeps, ArgumentsFit, ContextFits}
 use Rattle.source_soundness.specs.Sizes.{PointsWithin, Sized, KeepsSizes, ValueSized, LiesWithin, ArgumentsSized}
 use Rattle.typed_tree.proofs.SameTypes.{equal_options}
+use Rattle.source_soundness.proofs.Memories.{type_is}
 use Rattle.source_soundness.proofs.Operators.{Gives, FitsAs}
 use Rattle.source_soundness.proofs.Soundness.{keeps_bind, keeps_or_trap, some_of, scalar_value, array_of, object_of, read_promoted, Storable, stepped_storable, converts_scalar, unit_storable, names_live, entry_type, field_lies, element_lies, given_struct, steps_none, element_step, PointerTo, pointer_to_type, value_fits, arguments_keep, place_keeps, root_keeps}
 use Rattle.source_soundness.proofs.SizedObjects.{whole_within, moves_within, within_of_pointer, pointee_within, loaded_sized, stored_sized}
@@ -79,9 +80,6 @@ sizes_branch w ss P false first second h k = k
 any_cell : (w : World) (ss : List ℕ) (ty : Option VarTy) (o : Result Cell Trap) → ((v : Value) → ValueSized w ss ty v) → Gives (SizedAs w ss ty) o
 any_cell w ss ty (Ok c) h = h (holds c)
 any_cell w ss ty (Err trap) h = tt
-
-type_is : (a b : VarTy) → Some a ≡ Some b → a ≡ b
-type_is a b h = cc
 
 -- ---- stores
 

@@ -18,7 +18,7 @@ use Rattle.source_meaning.specs.Values.{Value, holds, whole, nothing, cell_of, p
 use Rattle.source_meaning.specs.Expressions.{Context, sizes, dereferenced, object_at, loaded, write_all, stored_in}
 use Rattle.source_soundness.specs.Worlds.{World, type_in, is_pointer, ValueFits, PartFits, LocationFits}
 use Rattle.source_soundness.specs.Sizes.{object_cells, PointsWithin, Sized, ValueSized, LiesWithin}
-use Rattle.source_soundness.proofs.Memories.{equal_blocks}
+use Rattle.source_soundness.proofs.Memories.{equal_blocks, type_is, same_type_in}
 use Rattle.source_soundness.proofs.Objects.{plain_part, pointer_part}
 use Rattle.source_soundness.proofs.Operators.{Gives}
 
@@ -46,12 +46,9 @@ pub elem_object : (ss : List ℕ) (elem : Elem) → object_cells ss (type_of_ele
 elem_object ss (e.Int t) = refl
 elem_object ss (e.Struct n) = refl
 
-one_type : (w : World) (b : Block) (s t : VarTy) → type_in w b ≡ Some s → type_in w b ≡ Some t → s ≡ t
-one_type w b s t h k = cc
-
 -- a variable lies in itself
 pub whole_within : (w : World) (ss : List ℕ) (b : Block) (a ty : VarTy) → a ≡ ty → type_in w b ≡ Some ty → LiesWithin w ss (record { block = b; cell = 0; ty = a })
-whole_within w ss b a ty e live t is = let same : object_cells ss a ≡ object_cells ss t = ap (object_cells ss) (e ∙ one_type w b ty t live is) in omega (arith, same)
+whole_within w ss b a ty e live t is = let same : object_cells ss a ≡ object_cells ss t = ap (object_cells ss) (e ∙ same_type_in w b ty t live is) in omega (arith, same)
 
 -- ---- pointers
 
@@ -109,7 +106,7 @@ put_sized w ss m b cells z long points = record {
 
 -- an object that is no pointer variable may hold what it will
 no_pointer : (w : World) (b : Block) (in_ : VarTy) (elem : Elem) (fixed : Bool) → type_in w b ≡ Some in_ → is_pointer in_ ≡ false → type_in w b ≡ Some (Pointer elem fixed) → true ≡ false
-no_pointer w b in_ elem fixed live plain is = ap is_pointer (one_type w b (Pointer elem fixed) in_ is live) ∙ plain
+no_pointer w b in_ elem fixed live plain is = ap is_pointer (same_type_in w b (Pointer elem fixed) in_ is live) ∙ plain
 
 pub cell_written : (w : World) (ss : List ℕ) (m : Memory) (b : Block) (at : ℕ) (c : Cell) (in_ : VarTy) → Sized w ss m → type_in w b ≡ Some in_ → is_pointer in_ ≡ false → Sized w ss (write m b at c)
 cell_written w ss m b at c in_ z live plain =
@@ -124,15 +121,12 @@ cells_written w ss m b at (c ∷ cs) in_ z live plain = cells_written w ss (writ
 pointer_written : (w : World) (ss : List ℕ) (m : Memory) (b : Block) (at : ℕ) (c : Cell) (elem : Elem) (fixed : Bool) → Sized w ss m → type_in w b ≡ Some (Pointer elem fixed) → at ≡ 0 → PointsWithin w ss elem c → Sized w ss (write m b at c)
 pointer_written w ss m b at c elem fixed z live first h =
     put_sized w ss m b (slice_set (m b) at c) z (λ ty is. set_length (m b) at c ∙ z.cells b ty is)
-    (λ other g is. subst (λ x. PointsWithin w ss other x) (sym (set_read (m b) at c (z.cells b (Pointer elem fixed) live) first)) (subst (λ x. PointsWithin w ss x c) (same_elem elem fixed other g (one_type w b (Pointer elem fixed) (Pointer other g) live is)) h))
+    (λ other g is. subst (λ x. PointsWithin w ss other x) (sym (set_read (m b) at c (z.cells b (Pointer elem fixed) live) first)) (subst (λ x. PointsWithin w ss x c) (same_elem elem fixed other g (same_type_in w b (Pointer elem fixed) (Pointer other g) live is)) h))
   where
     same_elem : (a : Elem) (f : Bool) (b : Elem) (g : Bool) → Pointer a f ≡ Pointer b g → a ≡ b
     same_elem a f b g e = cc
 
 -- ---- objects
-
-some_injective : (a b : VarTy) → Some a ≡ Some b → a ≡ b
-some_injective a b h = cc
 
 loaded_as : (w : World) (c : Context) (at : Location) (st : State) (in_ ty : VarTy) → Sized w (sizes c) st.memory → type_in w at.block ≡ Some in_ → PartFits at.cell in_ ty → at.cell + object_cells (sizes c) ty ≤ object_cells (sizes c) in_ → ValueSized w (sizes c) (Some ty) (loaded c at ty st)
 loaded_as w c at st in_ (Int t) z live part lies = tt
@@ -144,7 +138,7 @@ loaded_as w c at st in_ (Pointer elem fixed) z live part lies =
 
 pub loaded_sized : (w : World) (c : Context) (at : Location) (st : State) (ty : VarTy) → LocationFits w (Some ty) at → LiesWithin w (sizes c) at → Sized w (sizes c) st.memory → ValueSized w (sizes c) (Some ty) (loaded c at at.ty st)
 loaded_sized w c at st ty l lies z =
-    subst (λ t. ValueSized w (sizes c) (Some t) (loaded c at at.ty st)) (sym (some_injective ty at.ty l.has)) (loaded_as w c at st l.in_ at.ty z l.live l.part (lies l.in_ l.live))
+    subst (λ t. ValueSized w (sizes c) (Some t) (loaded c at at.ty st)) (sym (type_is ty at.ty l.has)) (loaded_as w c at st l.in_ at.ty z l.live l.part (lies l.in_ l.live))
 
 pub plain_stored : (w : World) (ss : List ℕ) (m : Memory) (at : Location) (v : Value) (in_ : VarTy) → Sized w ss m → type_in w at.block ≡ Some in_ → is_pointer in_ ≡ false → Sized w ss (stored_in m at v)
 plain_stored w ss m at (holds c) in_ z live plain = cell_written w ss m at.block at.cell c in_ z live plain
@@ -162,5 +156,5 @@ stored_as w ss m at v in_ (Pointer elem fixed) z live part fit size =
 
 pub stored_sized : (w : World) (ss : List ℕ) (m : Memory) (at : Location) (v : Value) (ty : VarTy) → LocationFits w (Some ty) at → ValueFits w (Some ty) v → ValueSized w ss (Some ty) v → Sized w ss m → Sized w ss (stored_in m at v)
 stored_sized w ss m at v ty l fit size z =
-    let same = some_injective ty at.ty l.has in
+    let same = type_is ty at.ty l.has in
     stored_as w ss m at v l.in_ at.ty z l.live l.part (subst (λ t. ValueFits w (Some t) v) same fit) (subst (λ t. ValueSized w ss (Some t) v) same size)

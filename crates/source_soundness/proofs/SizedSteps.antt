@@ -31,6 +31,7 @@ use Rattle.source_soundness.specs.Worlds.{World, type_in, LocationFits}
 use Rattle.source_soundness.specs.Laws.{ContextFits}
 use Rattle.source_soundness.specs.Sizes.{object_cells, PointsWithin, Sized, ValueSized, LiesWithin, CallsKeepSizes}
 use Rattle.typed_tree.proofs.SameTypes.{equal_options, equal_elems}
+use Rattle.source_soundness.proofs.Memories.{type_is}
 use Rattle.source_soundness.proofs.Operators.{Gives, same_promoted_is}
 use Rattle.source_soundness.proofs.Steps.{when, IsInt, arithmetic_int, shift_int, moved_is, field_is}
 use Rattle.source_soundness.proofs.Layouts.{field_within}
@@ -140,9 +141,6 @@ unit_sized w ss (Pointer elem fixed) back old h p = each (stepped ss (Pointer el
     each (Err trap) k = tt
 unit_sized w ss (Struct n) back old h p = false_not_true h
 unit_sized w ss (Array elem n) back old h p = false_not_true h
-
-type_is : (a b : VarTy) → Some a ≡ Some b → a ≡ b
-type_is a b h = cc
 
 pub read_sized : (w : World) (c : Context) (at : Location) (st : State) (ty : VarTy) → LocationFits w (Some ty) at → LiesWithin w (sizes c) at → IsTrue (is_scalar (Some ty)) → Sized w (sizes c) st.memory → SizedAs w (sizes c) (promoted_value (Some ty)) (read st.memory at.block at.cell)
 read_sized w c at st (Int t) l lies h z = tt

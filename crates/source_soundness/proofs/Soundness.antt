@@ -43,6 +43,7 @@ use Rattle.source_meaning.specs.Expressions.{Frame, Calls, Context, sizes, or_tr
 use Rattle.source_soundness.specs.Worlds.{World, type_in, is_pointer, IsNumber, IsScoped, Fits, ValueFits, PartFits, LocationFits}
 use Rattle.source_soundness.specs.Laws.{Keeps, ArgumentsFit, ContextFits}
 use Rattle.typed_tree.proofs.SameTypes.{equal_options, equal_elems}
+use Rattle.source_soundness.proofs.Memories.{type_is}
 use Rattle.source_soundness.proofs.Objects.{plain_part, loaded_fits, stored_fits}
 use Rattle.source_soundness.proofs.Operators.{Gives, FitsAs, gives_number, moves, scoped_of_pointer, unary_gives, converted_fits}
 use Rattle.source_soundness.proofs.Steps.{step_fits, plain_elem, plain_in, whole_part, pointee_fits, field_is}
@@ -146,15 +147,9 @@ null_is w n (Some (Array a k)) h = false_not_true h
 -- a pointer to the first element of an array, or to an object
 array_decays : (w : World) (at : Location) (elem : Elem) (count : ℕ) → LocationFits w (Some (Array elem count)) at → IsScoped w w.depth (decayed at at.ty)
 array_decays w at elem count l = subst (λ ty. IsScoped w w.depth (decayed at ty)) (type_is (Array elem count) at.ty l.has) (l.in_, l.live, plain_part at.cell l.in_ at.ty l.part (ap is_pointer (sym (type_is (Array elem count) at.ty l.has))), l.shallow)
-  where
-    type_is : (a b : VarTy) → Some a ≡ Some b → a ≡ b
-    type_is a b h = cc
 
 object_addressed : (w : World) (at : Location) (elem : Elem) → LocationFits w (Some (type_of_elem elem)) at → IsScoped w w.depth (address_of at)
 object_addressed w at elem l = (l.in_, l.live, plain_part at.cell l.in_ at.ty l.part (ap is_pointer (sym (type_is (type_of_elem elem) at.ty l.has)) ∙ plain_elem elem), l.shallow)
-  where
-    type_is : (a b : VarTy) → Some a ≡ Some b → a ≡ b
-    type_is a b h = cc
 
 -- ---- stores
 
@@ -165,16 +160,10 @@ keeps_store w at v ty st l fit m = (fit, stored_fits w st.memory at v ty l fit m
 pub read_promoted : (w : World) (c : Context) (at : Location) (st : State) (ty : VarTy) → LocationFits w (Some ty) at → IsTrue (is_scalar (Some ty)) → Fits w st.memory → FitsAs w (promoted_value (Some ty)) (read st.memory at.block at.cell)
 read_promoted w c at st (Int t) l h m = let fit = loaded_fits w c at st (Int t) l refl m in number_is (at.ty) (type_is (Int t) at.ty l.has) fit
   where
-    type_is : (a b : VarTy) → Some a ≡ Some b → a ≡ b
-    type_is a b h = cc
-
     number_is : (ty : VarTy) → Int t ≡ ty → ValueFits w (Some (Int t)) (loaded c at ty st) → FitsAs w (promoted_value (Some (Int t))) (read st.memory at.block at.cell)
     number_is ty is fit = subst (λ z. ValueFits w (Some (Int t)) (loaded c at z st)) (sym is) fit
 read_promoted w c at st (Pointer elem fixed) l h m = let fit = loaded_fits w c at st (Pointer elem fixed) l refl m in pointer_is (at.ty) (type_is (Pointer elem fixed) at.ty l.has) fit
   where
-    type_is : (a b : VarTy) → Some a ≡ Some b → a ≡ b
-    type_is a b h = cc
-
     pointer_is : (ty : VarTy) → Pointer elem fixed ≡ ty → ValueFits w (Some (Pointer elem fixed)) (loaded c at ty st) → FitsAs w (Some (Pointer elem fixed)) (read st.memory at.block at.cell)
     pointer_is ty is fit = subst (λ z. ValueFits w (Some (Pointer elem fixed)) (loaded c at z st)) (sym is) fit
 read_promoted w c at st (Struct n) l h m = false_not_true h
@@ -189,9 +178,6 @@ keeps_compounded w c s at step v ty st l h m =
     keeps_bind w (Storable w at.ty) (ValueFits w (Some ty)) (or_trap s (stepped (sizes c) at.ty step (read st.memory at.block at.cell) (cell_of v)) st) (λ cell. store at (holds (converted_cell at.ty cell)))
     (keeps_or_trap w (Storable w at.ty) s (stepped (sizes c) at.ty step (read st.memory at.block at.cell) (cell_of v)) st (subst (λ z. Gives (Storable w z) (stepped (sizes c) z step (read st.memory at.block at.cell) (cell_of v))) (type_is ty at.ty l.has) h) m)
     (λ cell st1 q m1. keeps_store w at (holds (converted_cell at.ty cell)) ty st1 l (subst (λ z. FitsAs w (Some z) (converted_cell at.ty cell)) (sym (type_is ty at.ty l.has)) q) m1)
-  where
-    type_is : (a b : VarTy) → Some a ≡ Some b → a ≡ b
-    type_is a b h = cc
 
 -- a step whose result is converted to the type of the place
 pub stepped_storable : (w : World) (ss : List ℕ) (ty : VarTy) (b : Option VarTy) (step : LinkStep) (old : Cell) (v : Value) → IsTrue (converts (r.stepped (promoted_value (Some ty)) step b) (Some ty)) → FitsAs w (promoted_value (Some ty)) old → ValueFits w b v → Gives (Storable w ty) (stepped ss ty step old (cell_of v))
@@ -290,9 +276,6 @@ names_global w n c g ty k is =
 pub field_lies : (w : World) (n : Names) (c : Context) (k : ℕ) (a : VarTy) (at : Location) (ty : VarTy) → ContextFits w n c → LocationFits w (Some a) at → f.field_type n.structs (Some a) k ≡ Some ty → LocationFits w (Some ty) (field_at c k at)
 field_lies w n c k (Struct m) at ty fit l h = go at.ty (type_is (Struct m) at.ty l.has) l.part
   where
-    type_is : (a b : VarTy) → Some a ≡ Some b → a ≡ b
-    type_is a b h = cc
-
     new_is : x.field_type c.structs m k ≡ ty
     new_is = ap (λ ss. x.field_type ss m k) fit.structs ∙ field_is n.structs m k ty h
 
@@ -328,9 +311,6 @@ element_lies w c s at elem count index st l m = subst (λ z. Keeps w (LocationFi
     (keeps_bind w (IsScoped w w.depth) (LocationFits w (Some (type_of_elem elem))) (or_trap s (moved_cell (number_of index) (decayed at (Array elem count))) st) (λ cell. or_trap s (dereferenced c (Pointer elem false) cell))
     (keeps_or_trap w (IsScoped w w.depth) s (moved_cell (number_of index) (decayed at (Array elem count))) st (moves w w.depth (number_of index) (decayed at (Array elem count)) (subst (λ z. IsScoped w w.depth (decayed at z)) (sym (type_is (Array elem count) at.ty l.has)) (array_decays w at elem count l))) m)
     (λ cell st1 q m1. keeps_or_trap w (LocationFits w (Some (type_of_elem elem))) s (dereferenced c (Pointer elem false) cell) st1 (pointee_fits w c elem false cell q) m1))
-  where
-    type_is : (a b : VarTy) → Some a ≡ Some b → a ≡ b
-    type_is a b h = cc
 
 -- `++` and `--`
 counted_keeps : (w : World) (c : Context) (s : Span) (back postfix : Bool) (at : Location) (ty : VarTy) (st : State) → LocationFits w (Some ty) at → IsTrue (is_scalar (Some ty)) → Fits w st.memory → Keeps w (ValueFits w (Some ty)) (counted c s back postfix at st)
@@ -339,9 +319,6 @@ counted_keeps w c s back postfix at ty st l h m =
     (keeps_compounded w c s at (unit_step at.ty back) (holds (number (pos 1))) ty st l (subst (λ z. Gives (Storable w ty) (stepped (sizes c) ty (unit_step z back) (read st.memory at.block at.cell) (number (pos 1)))) (type_is ty at.ty l.has) (unit_storable w (sizes c) ty back (read st.memory at.block at.cell) h (read_promoted w c at st ty l h m))) m)
     (λ v st1 q m1. (either postfix (loaded c at at.ty st) v (loaded_fits w c at st ty l (scalar_value (Some ty) h) m) q, m1))
   where
-    type_is : (a b : VarTy) → Some a ≡ Some b → a ≡ b
-    type_is a b h = cc
-
     either : (b : Bool) (old new : Value) → ValueFits w (Some ty) old → ValueFits w (Some ty) new → ValueFits w (Some ty) (step_gives b old new)
     either true old new h k = h
     either false old new h k = k

@@ -29,6 +29,7 @@ use Rattle.source_meaning.specs.Memory.{same_block, Cell, number, null, pointer}
 use Rattle.source_meaning.specs.Values.{Value, cell_of, number_in, target_of, moved_cell, shift_of, pointee_cells, promoted_of, stepped}
 use Rattle.source_meaning.specs.Expressions.{Context, sizes, field_type, dereferenced, object_at}
 use Rattle.source_soundness.specs.Worlds.{World, is_pointer, IsNumber, IsScoped, ValueFits, PartFits, LocationFits}
+use Rattle.source_soundness.proofs.Memories.{type_is}
 use Rattle.source_soundness.proofs.Operators.{Gives, FitsAs, gives_number, moves, scoped_of_pointer}
 
 -- ---- chains
@@ -152,16 +153,13 @@ no_struct = record { name = []; fields = [] }
 abbrev field_type_in : ℕ → StructInfo → VarTy
 field_type_in k s = type_of_field (get_or s.fields k no_field)
 
-same_some : (a b : VarTy) → Some a ≡ Some b → a ≡ b
-same_some a b h = cc
-
 pub field_is : (structs : List StructInfo) (n k : ℕ) (ty : VarTy) → f.field_type structs (Some (Struct n)) k ≡ Some ty → field_type structs n k ≡ ty
 field_is structs n k ty h = at_struct (slice_get structs n) refl h
   where
     at_field : (s : StructInfo) (o : Option Field) → slice_get structs n ≡ Some s → slice_get s.fields k ≡ o → option_map (λ x. x.ty) o ≡ Some ty → field_type structs n k ≡ ty
     at_field s None is is' h = cc
     at_field s (Some x) is is' h =
-        ap (field_type_in k) (get_or_from_slice_get structs n s no_struct is) ∙ ap type_of_field (get_or_from_slice_get s.fields k x no_field is') ∙ same_some x.ty ty h
+        ap (field_type_in k) (get_or_from_slice_get structs n s no_struct is) ∙ ap type_of_field (get_or_from_slice_get s.fields k x no_field is') ∙ type_is x.ty ty h
 
     at_struct : (o : Option StructInfo) → slice_get structs n ≡ o → option_and_then (λ s. option_map (λ x. x.ty) (slice_get s.fields k)) o ≡ Some ty → field_type structs n k ≡ ty
     at_struct None is h = cc

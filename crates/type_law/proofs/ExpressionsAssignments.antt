@@ -21,7 +21,6 @@ use Rattle.typed_tree.specs.TypeTests as test
 use Rattle.typed_tree.specs.TypeRules.{stepped, promoted_value, converts, is_compound, is_comparison}
 use Rattle.typed_tree.specs.WellFormedExpression.{Names, is_typed, ty_of, place_fits, place_type, place_const, is_object, is_written, assigned_type}
 use Rattle.check_declarations.specs.declared.fault.FaultKind.{FaultKind}
-use Rattle.check_declarations.specs.Faults.{fault_if}
 use Rattle.check_declarations.specs.Objects.{is_struct}
 use Rattle.check_declarations.specs.Structs.{Structs, has_const}
 use Rattle.check_expressions.specs.Assignments.{misfits, stored_tree, stored_by, stored, is_compounding, operator_rule, step_rule_of, is_refused, compound_tree, compounded_by, compounded, assigned}
@@ -41,10 +40,6 @@ use Rattle.type_law.proofs.ExpressionsTakes.{numbers_take, shifts_take, moves_ta
 use Rattle.typed_tree.proofs.SameTypes.{elem_self}
 
 -- ---- what may be written
-
-pub if_fault : (b : Bool) (k : FaultKind) (s : Span) → fault_if b k s ≡ [] → b ≡ false
-if_fault true k s h = cc
-if_fault false k s h = refl
 
 -- no array, and an object that isn't const
 pub record Written (ty : «Type») (designates is_const : Bool) : Type 0 where

@@ -26,13 +26,14 @@ use Rattle.check_expressions.specs.declared.meaning.Callable.{Callable}
 use Rattle.check_expressions.specs.Environment.{Env}
 use Rattle.check_expressions.specs.Operands.{var_type, plain, fine, refused}
 use Rattle.check_expressions.specs.Postfixes.{is_main, function_params, params_of, params_for, argument_tree, argument_faults, call_tree, call_of, called_function, called_other, called}
-use Rattle.type_law.specs.DeclarationsTypes.{is_good, is_variable, is_parameter, is_result}
+use Rattle.type_law.specs.DeclarationsTypes.{is_parameter, is_result}
 use Rattle.type_law.specs.ExpressionsAgreement.{HasCallable, Agrees, taken}
 use Rattle.type_law.specs.ExpressionsLaws.{SoundValue, Fitted}
 use Rattle.type_law.proofs.ExpressionsSameTypes.{same_types-equal}
 use Rattle.type_law.proofs.ExpressionsFits.{values_fit}
 use Rattle.type_law.proofs.ExpressionsKnown.{SoundKnown, plain_sound}
-use Rattle.type_law.proofs.ExpressionsAssignments.{if_fault}
+use Rattle.type_law.proofs.DeclarationsFaultLemmas.{no_fault}
+use Rattle.type_law.proofs.DeclarationsGoodTypes.{parameter_variable, result_good}
 use Rattle.type_law.proofs.ExpressionsNames.{there}
 
 -- ---- arguments
@@ -63,19 +64,11 @@ pub from_start : (params : List «Type») → FromOn params 0 params
 unfolding FromOn
 from_start params i = let e : 0 + i ≡ i = omega arith in ap (λ j. slice_get params j) e
 
-parameter_variable : (structs : ℕ) (t : «Type») → IsTrue (is_parameter structs t) → IsTrue (is_variable structs t)
-parameter_variable structs Bad h = cc
-parameter_variable structs Void h = cc
-parameter_variable structs (Int t) h = refl
-parameter_variable structs (Struct m) h = cc
-parameter_variable structs (Array e c) h = cc
-parameter_variable structs (Pointer e f) h = h
-
 pub argument_fits : (n : Names) (structs : ℕ) (o : Option «Type») (t : «Type») (w : Value) (x : ExprTree) (at : Span) → structs ≤ length n.structs → o ≡ Some t → IsTrue (is_parameter structs t) → SoundValue n structs w x → argument_faults o w at ≡ [] → Fitted n t (argument_tree o w x)
 unfolding argument_faults argument_tree
 argument_fits n structs o t w x at below e p h z =
     let y : fault_if (is_wrong (fit_rule t w)) WrongType at ≡ [] = subst (λ u. argument_faults u w at ≡ []) e z in
-    subst (λ u. Fitted n t (argument_tree u w x)) (sym e) (values_fit n structs t w x h (parameter_variable structs t p) below (if_fault (is_wrong (fit_rule t w)) WrongType at y))
+    subst (λ u. Fitted n t (argument_tree u w x)) (sym e) (values_fit n structs t w x h (parameter_variable structs t p) below (no_fault (is_wrong (fit_rule t w)) WrongType at y))
 
 pub argument_typed : (n : Names) (structs : ℕ) (o : Option «Type») (w : Value) (x : ExprTree) → o ≡ None → SoundValue n structs w x → IsTrue (is_typed n (argument_tree o w x))
 unfolding argument_tree
@@ -105,14 +98,6 @@ all_fit n (p ∷ ps) (t ∷ ts) (x ∷ xs) e l h =
     }
 
 -- ---- the call
-
-result_good : (structs : ℕ) (t : «Type») → IsTrue (is_result t) → IsTrue (is_good structs t)
-result_good structs Bad h = cc
-result_good structs Void h = refl
-result_good structs (Int t) h = refl
-result_good structs (Struct m) h = cc
-result_good structs (Array e c) h = cc
-result_good structs (Pointer e f) h = cc
 
 result_whole : (t : «Type») → IsTrue (is_result t) → value_type t false ≡ t
 result_whole Bad h = cc

@@ -24,7 +24,8 @@ use Rattle.check_expressions.specs.Conversions.{as_type}
 use Rattle.check_expressions.specs.Operands.{var_type, plain}
 use Rattle.type_law.specs.DeclarationsTypes.{is_good}
 use Rattle.type_law.specs.ExpressionsLaws.{SoundValue, Fitted}
-use Rattle.type_law.proofs.ExpressionsSameTypes.{same_types-equal, usual-promoted, elem-more}
+use Rattle.type_law.proofs.ExpressionsSameTypes.{same_types-equal, usual-promoted}
+use Rattle.type_law.proofs.DeclarationsGoodTypes.{elem_more}
 use Rattle.type_law.proofs.ExpressionsFits.{int_fits, pointer_fits, null_fits}
 use Rattle.type_law.proofs.ExpressionsKnown.{SoundKnown, plain_sound, value_sound}
 use Rattle.type_law.proofs.ExpressionsLinks.{no_struct, scalar_has}
@@ -49,14 +50,14 @@ joined_fits : (n : Names) (structs : ℕ) (s t : «Type») (m k : Bool) (x y : E
 unfolding as_type var_type
 joined_fits n structs (Int a) (Int b) m k x y below p q u w g h = record { first = int_fits n a (usual a b) x g; last = int_fits n b (usual a b) y h; arm = usual-promoted a b; good = refl; whole = refl; plain = refl }
 joined_fits n structs (Int a) (Pointer e f) true true x y below p q u w g h = let z : false ≡ true = w refl in cc
-joined_fits n structs (Int a) (Pointer e f) true false x y below p q u w g h = record { first = null_fits n e f x (elem-more structs (length n.structs) e below q); last = pointer_fits n e e f f y (is_same_elem-self e) (or_not_self f) h; arm = refl; good = q; whole = refl; plain = refl }
+joined_fits n structs (Int a) (Pointer e f) true false x y below p q u w g h = record { first = null_fits n e f x (elem_more structs (length n.structs) e below q); last = pointer_fits n e e f f y (is_same_elem-self e) (or_not_self f) h; arm = refl; good = q; whole = refl; plain = refl }
 joined_fits n structs (Int a) (Pointer e f) false k x y below p q u w g h = tt
 joined_fits n structs (Int a) Bad m k x y below p q u w g h = tt
 joined_fits n structs (Int a) Void m k x y below p q u w g h = tt
 joined_fits n structs (Int a) (Struct b) m k x y below p q u w g h = tt
 joined_fits n structs (Int a) (Array e c) m k x y below p q u w g h = tt
 joined_fits n structs (Pointer e f) (Int b) true true x y below p q u w g h = let z : false ≡ true = u refl in cc
-joined_fits n structs (Pointer e f) (Int b) false true x y below p q u w g h = record { first = pointer_fits n e e f f x (is_same_elem-self e) (or_not_self f) g; last = null_fits n e f y (elem-more structs (length n.structs) e below p); arm = refl; good = p; whole = refl; plain = refl }
+joined_fits n structs (Pointer e f) (Int b) false true x y below p q u w g h = record { first = pointer_fits n e e f f x (is_same_elem-self e) (or_not_self f) g; last = null_fits n e f y (elem_more structs (length n.structs) e below p); arm = refl; good = p; whole = refl; plain = refl }
 joined_fits n structs (Pointer e f) (Int b) m false x y below p q u w g h = tt
 joined_fits n structs (Pointer e f) (Pointer e' f') true k x y below p q u w g h = let z : false ≡ true = u refl in cc
 joined_fits n structs (Pointer e f) (Pointer e' f') false true x y below p q u w g h = let z : false ≡ true = w refl in cc

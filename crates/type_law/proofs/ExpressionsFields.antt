@@ -1,28 +1,27 @@
 -- The fields of the judged structs are those of the typed tree's structs.
-use Rattle.std.proofs.Common.{◌≡◌, ◌∙◌, ◌≤◌, ◌<◌, ◌+◌, ℕ, zero, suc, refl, ap, subst, List, [], ◌∷◌, ◌++◌, Option, Some, None, length, arith}
-use Rattle.std.specs.Prelude.{IsTrue, slice_get, option_map, option_and_then, nat_lt, nat_le}
-use Rattle.std.proofs.lemmas.Bool.Decides.{nat_tests}
+use Rattle.std.proofs.Common.{◌≡◌, ◌∙◌, ◌≤◌, ◌<◌, ◌+◌, ℕ, refl, ap, sym, subst, List, ◌++◌, Option, Some, None, length, arith}
+use Rattle.std.specs.Prelude.{IsTrue, slice_get, option_map, option_and_then}
 use Rattle.std.proofs.lemmas.List.{length-append, length-map}
 use Rattle.std.proofs.lemmas.Option.{slice_get-map, slice_get_within}
-use Rattle.pt_base.proofs.Booleans.{both_hold, both_hold_first, both_hold_second}
+use Rattle.pt_base.proofs.Booleans.{both_hold_first}
 use Rattle.pt_base.proofs.Members.{all_hold_at}
 use Rattle.pt_base.proofs.Places.{get_kept}
-use Rattle.type_rules.specs.declared.types.Type.{«Type»}
-use Rattle.type_rules.specs.declared.types.Type.TheVariants.{Bad, Void, Int, Struct, Array, Pointer}
 use Rattle.typed_tree.specs.declared.types.VarTy.TheVariants as v
 use Rattle.typed_tree.specs.declared.types.Field.{Field}
 use Rattle.typed_tree.specs.declared.types.StructInfo.{StructInfo}
-use Rattle.typed_tree.specs.WellFormedExpression.{Names, field_type, is_elem}
+use Rattle.typed_tree.specs.WellFormedExpression.{Names, field_type}
 use Rattle.check_declarations.specs.declared.structs.FieldEntry.{FieldEntry}
 use Rattle.check_declarations.specs.declared.structs.FoundField.{FoundField}
 use Rattle.check_declarations.specs.declared.structs.StructEntry.{StructEntry}
 use Rattle.check_declarations.specs.NameTables.{number_of, value_at, values}
 use Rattle.check_declarations.specs.Structs.{Fields, Structs, found_in, field_named}
-use Rattle.check_expressions.specs.Operands.{var_type}
-use Rattle.check_expressions.specs.StructInfos.{object_type_of, field_info, struct_info, infos_of}
-use Rattle.type_law.specs.DeclarationsTypes.{is_plain, is_variable}
-use Rattle.type_law.specs.DeclarationsSound.{SoundStruct, SoundFrom, SoundStructs, field_sound}
-use Rattle.type_law.proofs.ExpressionsSameTypes.{elem-more}
+use Rattle.check_expressions.specs.StructInfos.{field_info, struct_info, infos_of}
+use Rattle.type_law.specs.DeclarationsTypes.{is_plain}
+use Rattle.type_law.specs.DeclarationsSound.{SoundStructs}
+use Rattle.type_law.proofs.DeclarationsGoodTypes.{plain_more, plain_variable}
+use Rattle.type_law.proofs.DeclarationsTableLemmas.{sound_at, sound_prefix}
+use Rattle.type_law.proofs.DeclarationsTableLemmas as tables
+use Rattle.type_law.proofs.StatementsTypeLemmas.{has_object_type}
 use Rattle.type_law.proofs.ExpressionsPostfixes.{FieldsAgree}
 
 -- ---- a field that is found stands in its struct
@@ -60,51 +59,11 @@ found_at structs m name f h = by_struct (slice_get structs m) refl h
 
 -- ---- the struct in the typed tree
 
-plain_type : (count : ℕ) (ty : «Type») → IsTrue (is_plain count ty) → Some (object_type_of ty) ≡ var_type ty
-unfolding var_type
-plain_type count Bad h = cc
-plain_type count Void h = cc
-plain_type count (Int t) h = refl
-plain_type count (Struct m) h = refl
-plain_type count (Array e c) h = refl
-plain_type count (Pointer e f) h = cc
-
-lower : (k a b : ℕ) → a ≤ b → IsTrue (nat_lt k a) → IsTrue (nat_lt k b)
-lower k a b h t = grind (arith, nat_tests)
-
-plain_variable : (a b : ℕ) (ty : «Type») → a ≤ b → IsTrue (is_plain a ty) → IsTrue (is_variable b ty)
-plain_variable a b Bad k h = cc
-plain_variable a b Void k h = cc
-plain_variable a b (Int t) k h = refl
-plain_variable a b (Struct m) k h = lower m a b k h
-plain_variable a b (Array e c) k h = both_hold (is_elem b (Some e)) (nat_le 1 c) (elem-more a b e k (both_hold_first (is_elem a (Some e)) (nat_le 1 c) h)) (both_hold_second (is_elem a (Some e)) (nat_le 1 c) h)
-plain_variable a b (Pointer e f) k h = cc
-
-pub record SoundAt (first j : ℕ) (x : StructEntry) : Type 0 where
-  pub before : Structs
-  pub size : length before ≡ first + j
-  pub sound : SoundStruct before x
-
-sound_at : (before rest : Structs) (j : ℕ) (x : List ℕ × StructEntry) → SoundFrom before rest → slice_get rest j ≡ Some x → SoundAt (length before) j x.1
-sound_at before [] j x h e = cc
-sound_at before (s ∷ rest) zero x h e = let same : s ≡ x = cc in record { before = before; size = omega arith; sound = subst (λ (y : List ℕ × StructEntry). SoundStruct before y.1) same h.0 }
-sound_at before (s ∷ rest) (suc j) x h e =
-    let r = sound_at (before ++ s ∷ []) rest j x h.1 e in
-    let size : length r.before ≡ length (before ++ s ∷ []) + j = r.size in
-    let grown : length (before ++ s ∷ []) ≡ length before + length (s ∷ []) = length-append before (s ∷ []) in
-    record { before = r.before; size = omega arith; sound = r.sound }
-
-pub sound_prefix : (before xs ys : Structs) → SoundFrom before (xs ++ ys) → SoundFrom before xs
-sound_prefix before [] ys h = tt
-sound_prefix before (x ∷ xs) ys h = (h.0, sound_prefix (before ++ x ∷ []) xs ys h.1)
-
 field_plain : (structs : Structs) (m : ℕ) (f : FoundField) (more : Structs) → SoundStructs (structs ++ more) → FoundAt structs m f → IsTrue (is_plain m f.entry.ty)
 field_plain structs m f more h p =
-    let s = sound_at [] structs m p.entry (sound_prefix [] structs more h) p.at in
+    let s = sound_at structs m p.entry (sound_prefix structs more h) p.at in
     let entry : slice_get (values p.entry.1.fields) f.number ≡ Some f.entry = slice_get-map (λ (e : List ℕ × FieldEntry). e.1) p.entry.1.fields f.number ∙ ap (option_map (λ (e : List ℕ × FieldEntry). e.1)) p.field in
-    let passes = all_hold_at (field_sound s.before) (values p.entry.1.fields) f.number f.entry s.sound.fields entry in
-    let size : length s.before ≡ m = s.size ∙ omega arith in
-    subst (λ k. IsTrue (is_plain k f.entry.ty)) size (both_hold_first (is_plain (length s.before) f.entry.ty) _ passes)
+    both_hold_first (is_plain m f.entry.ty) _ (all_hold_at (tables.field_at structs m) (values p.entry.1.fields) f.number f.entry s.fields entry)
 
 type_in : (structs : List StructInfo) (m k : ℕ) (s : StructInfo) (f : Field) → slice_get structs m ≡ Some s → slice_get s.fields k ≡ Some f → field_type structs (Some (v.Struct m)) k ≡ Some f.ty
 type_in structs m k s f h g = ap (λ o. option_and_then (λ (x : StructInfo). option_map (λ (y : Field). y.ty) (slice_get x.fields k)) o) h ∙ ap (option_map (λ (y : Field). y.ty)) g
@@ -115,9 +74,10 @@ fields_agree n structs more h is m name f found =
     let plain = field_plain structs m f more h p in
     let info : slice_get (infos_of (structs ++ more)) m ≡ Some (struct_info p.entry) = slice_get-map struct_info (structs ++ more) m ∙ ap (option_map struct_info) (get_kept structs more m p.entry p.at) in
     let field : slice_get (struct_info p.entry).fields f.number ≡ Some (field_info (p.name, f.entry)) = slice_get-map field_info p.entry.1.fields f.number ∙ ap (option_map field_info) p.field in
-    let within : m < length structs = slice_get_within structs m p.entry p.at in (
-      ap (λ ss. field_type ss (Some (v.Struct m)) f.number) is ∙ type_in (infos_of (structs ++ more)) m f.number (struct_info p.entry) (field_info (p.name, f.entry)) info field ∙ plain_type m f.entry.ty plain,
-      plain_variable m (length structs) f.entry.ty (omega arith) plain,
+    let within : m < length structs = slice_get_within structs m p.entry p.at in
+    let good = plain_variable (length structs) f.entry.ty (plain_more m (length structs) f.entry.ty (omega (arith, within)) plain) in (
+      ap (λ ss. field_type ss (Some (v.Struct m)) f.number) is ∙ type_in (infos_of (structs ++ more)) m f.number (struct_info p.entry) (field_info (p.name, f.entry)) info field ∙ sym (has_object_type (length structs) f.entry.ty good),
+      good,
     )
 
 pub count_within : (n : Names) (structs more : Structs) → n.structs ≡ infos_of (structs ++ more) → length structs ≤ length n.structs

@@ -20,7 +20,7 @@ use Rattle.check_expressions.specs.Conversions.{to_int, to_pointer, to_null, as_
 use Rattle.check_expressions.specs.Operands.{var_type}
 use Rattle.type_law.specs.DeclarationsTypes.{is_good, is_variable}
 use Rattle.type_law.specs.ExpressionsLaws.{Fitted, ValuesFit}
-use Rattle.type_law.proofs.ExpressionsSameTypes.{elem-more}
+use Rattle.type_law.proofs.DeclarationsGoodTypes.{elem_more}
 use Rattle.typed_tree.proofs.SameTypes.{elem_self}
 
 pub int_fits : (n : Names) (s t : IntType) (x : ExprTree) → Fitted n (Int s) x → Fitted n (Int t) (to_int t x)
@@ -81,7 +81,7 @@ fitted n structs (Pointer e f) (Pointer e' f') false x h good null variable belo
     by_test : (c : Bool) → (is_same_elem e e' && (f || not f')) ≡ c → is_wrong (if c then fit.Points else fit.Wrong) ≡ false → Fitted n (Pointer e f) (to_pointer e f x)
     by_test true k z = pointer_fits n e e' f f' x (and_true_first _ _ k) (and_true_second (is_same_elem e e') _ k) h
     by_test false k z = cc
-fitted n structs (Pointer e f) (Int s) true x h good null variable below w = null_fits n e f x (elem-more structs (length n.structs) e below variable)
+fitted n structs (Pointer e f) (Int s) true x h good null variable below w = null_fits n e f x (elem_more structs (length n.structs) e below variable)
 fitted n structs (Pointer e f) (Int s) false x h good null variable below w = cc
 fitted n structs (Pointer e f) Bad m x h good null variable below w = cc
 fitted n structs (Pointer e f) Void m x h good null variable below w = cc

@@ -31,7 +31,8 @@ use Rattle.type_law.proofs.ExpressionsChoices.{chosen_sound}
 use Rattle.type_law.proofs.ExpressionsAssignments.{assigned_sound, good_of}
 use Rattle.type_law.proofs.ExpressionsPrefixes.{prefixed_sound, cast_sound, stepped_sound}
 use Rattle.type_law.proofs.ExpressionsPostfixes.{FieldsAgree, indexed_sound, dotted_sound, arrow_sound}
-use Rattle.type_law.proofs.ExpressionsFields.{fields_agree, count_within, sound_prefix}
+use Rattle.type_law.proofs.ExpressionsFields.{fields_agree, count_within}
+use Rattle.type_law.proofs.DeclarationsTableLemmas.{sound_prefix}
 use Rattle.type_law.proofs.ExpressionsNames.{CalledAt, named_sound, literal_sound, called_entry}
 use Rattle.type_law.proofs.ExpressionsCalls.{Passed, FromOn, from_here, from_next, from_none, from_start, argument_fits, argument_typed, called_sound, no_call, params_are}
 
@@ -123,7 +124,7 @@ mutual
       let c : CastBase = cast_specified structs specs in
       let p : Judged = judge env c.structs a in
       let parts = append_nil_first (c.faults ++ p.faults) _ z in
-      let b = cast_base_sound spec structs specs (sound_prefix [] structs h.more h.sound) (append_nil_first c.faults p.faults parts) in
+      let b = cast_base_sound spec structs specs (sound_prefix structs h.more h.sound) (append_nil_first c.faults p.faults parts) in
       let r = law spec n env c.structs a (agrees_at n env structs c.structs b.same h) (both_hold_second (specs_sound specs) (expr_sound a) ok) (none_right c.faults p.faults parts) in
       let base = subst (λ (t : Structs). IsTrue (is_base (length t) c.base)) (sym r.same) b.base in
       record { same = r.same ∙ b.same; known = cast_sound n (length p.structs) pointer c.base s (span_of a) p.operand base r.known (none_right (c.faults ++ p.faults) _ z) }

@@ -1,17 +1,12 @@
 -- The tests of types hold of equal types; the integer types of conversions.
-use Rattle.std.proofs.Common.{◌≡◌, ◌∙◌, ◌≤◌, ℕ, nat_eq, refl, ap, sym, arith, true, Option, Some, None}
-use Rattle.std.specs.Prelude.{IsTrue}
-use Rattle.std.proofs.lemmas.Bool.Decides.{nat_tests}
+use Rattle.std.proofs.Common.{◌≡◌, ◌∙◌, nat_eq, refl, ap, sym, true, Option, Some, None}
 use Rattle.pt_base.specs.IntTypes.{promoted, usual}
 use Rattle.pt_base.specs.declared.int_type.IntType.{IntType}
 use Rattle.pt_base.specs.declared.int_type.IntType.TheVariants.{Char, SChar, UChar, Short, UShort, Int, UInt, Long, ULong}
-use Rattle.pt_tree.specs.declared.signature.Elem.{Elem}
-use Rattle.pt_tree.specs.declared.signature.Elem.TheVariants as elem
 use Rattle.typed_tree.specs.declared.types.VarTy.{VarTy}
 use Rattle.typed_tree.specs.declared.types.VarTy.TheVariants as v
 use Rattle.typed_tree.specs.TypeTests.{same_elem, same_bool, same_types}
 use Rattle.typed_tree.specs.TypeRules.{is_promoted}
-use Rattle.typed_tree.specs.WellFormedExpression.{is_elem}
 use Rattle.typed_tree.proofs.SameTypes.{bool_self, elem_self, int_self}
 use Rattle.pt_base.proofs.Booleans.{both_hold}
 use Rattle.pt_base.proofs.Numbers.{nat_eq_self}
@@ -98,8 +93,3 @@ usual-both UInt UInt = refl
 usual-both Long Long = refl
 usual-both ULong ULong = refl
 usual-both a b = refl
-
--- an element among some structs is one among more
-pub elem-more : (a b : ℕ) (e : Elem) → a ≤ b → IsTrue (is_elem a (Some e)) → IsTrue (is_elem b (Some e))
-elem-more a b (elem.Int t) k h = refl
-elem-more a b (elem.Struct n) k h = grind (arith, nat_tests)

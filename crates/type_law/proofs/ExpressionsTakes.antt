@@ -29,7 +29,8 @@ use Rattle.check_expressions.specs.Links.{integer_op, step_of, is_shift_left, is
 use Rattle.check_expressions.specs.Operands.{var_type}
 use Rattle.type_law.specs.DeclarationsTypes.{is_good}
 use Rattle.type_law.specs.ExpressionsLaws.{Fitted}
-use Rattle.type_law.proofs.ExpressionsSameTypes.{promoted-promoted, promoted-same, usual-promoted, usual-left, usual-both, elem-more}
+use Rattle.type_law.proofs.ExpressionsSameTypes.{promoted-promoted, promoted-same, usual-promoted, usual-left, usual-both}
+use Rattle.type_law.proofs.DeclarationsGoodTypes.{elem_more}
 use Rattle.type_law.proofs.ExpressionsFits.{int_fits, promoted_fits, null_fits}
 use Rattle.type_law.proofs.ExpressionsOutcomes.{val, Outcome, numbers, truths, shifts, moves, moves_by, differs, compares, null_right, null_left}
 use Rattle.typed_tree.proofs.SameTypes.{elem_self, int_self}
@@ -174,7 +175,7 @@ later_takes n structs op s t i j r y (moves_by a e f m k) pure null ready good b
 later_takes n structs op s t i j r y (differs e e' f f' m k same) pure null ready good below h = differs_take n structs op e e' f f' m k y same h
 later_takes n structs op s t i j r y (compares e e' f f' m true c same) pure null ready good below h = let z : false ≡ true = null refl in cc
 later_takes n structs op s t i j r y (compares e e' f f' m false c same) pure null ready good below h = compares_take n structs op e e' f f' m y c same h
-later_takes n structs op s t i j r y (null_right e f b m c) pure null ready good below h = null_right_takes n structs op e f b m y c (elem-more structs (length n.structs) e below ready)
+later_takes n structs op s t i j r y (null_right e f b m c) pure null ready good below h = null_right_takes n structs op e f b m y c (elem_more structs (length n.structs) e below ready)
 later_takes n structs op s t i j r y (null_left a e f k c) pure null ready good below h = cc
 
 -- ---- the first operand, which is converted
@@ -204,8 +205,8 @@ first_takes n structs op s t i j r x y (compares e e' f f' true k c same) null n
 first_takes n structs op s t i j r x y (compares e e' f f' false true c same) null null' good good' below g h = let z : false ≡ true = null' refl in cc
 first_takes n structs op s t i j r x y (compares e e' f f' false false c same) null null' good good' below g h = first_by n structs (Some (v.Pointer e f)) rule.ComparePointers op (val (Pointer e f) false) (val (Pointer e' f') false) x y g.typed g.has (compares_take n structs op e e' f f' false y c same h)
 first_takes n structs op s t i j r x y (null_right e f b true c) null null' good good' below g h = let z : false ≡ true = null refl in cc
-first_takes n structs op s t i j r x y (null_right e f b false c) null null' good good' below g h = first_by n structs (Some (v.Pointer e f)) rule.ComparePointers op (val (Pointer e f) false) (val (Int b) true) x y g.typed g.has (null_right_takes n structs op e f b false y c (elem-more structs (length n.structs) e below good))
+first_takes n structs op s t i j r x y (null_right e f b false c) null null' good good' below g h = first_by n structs (Some (v.Pointer e f)) rule.ComparePointers op (val (Pointer e f) false) (val (Int b) true) x y g.typed g.has (null_right_takes n structs op e f b false y c (elem_more structs (length n.structs) e below good))
 first_takes n structs op s t i j r x y (null_left a e f true c) null null' good good' below g h = let z : false ≡ true = null' refl in cc
 first_takes n structs op s t i j r x y (null_left a e f false c) null null' good good' below g h =
-    let z = null_fits n e f x (elem-more structs (length n.structs) e below good') in
+    let z = null_fits n e f x (elem_more structs (length n.structs) e below good') in
     first_by n structs (Some (v.Pointer e f)) rule.ComparePointers op (val (Int a) true) (val (Pointer e f) false) x y z.typed z.has (null_left_takes n structs op a e f y c h)

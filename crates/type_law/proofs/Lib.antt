@@ -7,7 +7,6 @@ pub mod DeclarationsSizeLemmas
 pub mod DeclarationsLeavesLemmas
 pub mod DeclarationsStructLemmas
 pub mod DeclarationsSpecifierLemmas
-pub mod DeclarationsFieldLemmas
 pub mod ExpressionsAssignments
 pub mod ExpressionsCalls
 pub mod ExpressionsChoices

@@ -51,7 +51,9 @@ use Rattle.check_programs.specs.Unions.{marks_at}
 use Rattle.check_programs.specs.Progress.{Progress}
 use Rattle.type_law.proofs.ProgramsListLemmas.{all_weaker, all_pass, get_set, get_set_same, get_after_set, length_set}
 use Rattle.type_law.proofs.ProgramsTableLemmas.{sought}
-use Rattle.type_law.proofs.ProgramsTypeLemmas.{object_there, parameter_variable, params_lead_vars}
+use Rattle.type_law.proofs.ProgramsTypeLemmas.{params_lead_vars}
+use Rattle.type_law.proofs.DeclarationsGoodTypes.{parameter_variable}
+use Rattle.type_law.proofs.StatementsTypeLemmas.{has_object_type}
 use Rattle.type_law.proofs.ProgramsSound.{signatures, Extends, Grows, defines, SoundEntry, entry_kept, is_file_entry, is_local_entry, HasObject, Known, SoundTables, HasStart, callable_kept, extends_back}
 use Rattle.type_law.proofs.ProgramsOpened.{Opened, params_sound, structs_many, some_same}
 
@@ -97,7 +99,7 @@ agrees marks rest own defining st c k o t x f new vars =
     variables j y h =
         let good = parameter_variable (length st.structs) y.ty (all_hold_at (is_parameter (length st.structs)) (map (λ (z : Variable). z.ty) st.env.variables) j y.ty o.params.types (get_mapped (λ (z : Variable). z.ty) st.env.variables j y h)) in
         let there : slice_get f.vars j ≡ Some (var_of y) = ap (λ vs. slice_get vs j) vars ∙ get_mapped var_of (st.env.variables ++ new) j y (get_kept st.env.variables new j y h) in
-        (good, ap (option_map (λ z. z.ty)) there ∙ object_there (length st.structs) y.ty good)
+        (good, ap (option_map (λ z. z.ty)) there ∙ sym (has_object_type (length st.structs) y.ty good))
 
 -- ---- the entry gets the body
 

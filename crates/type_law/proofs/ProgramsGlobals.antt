@@ -42,7 +42,10 @@ use Rattle.check_programs.specs.Globals.{globals_limit, global_type, object_of, 
 use Rattle.check_programs.specs.Progress.{Progress}
 use Rattle.type_law.proofs.ProgramsListLemmas.{get_pushed, IsLast}
 use Rattle.type_law.proofs.ProgramsTableLemmas.{sought, none_where_new, sought_pushed, sought_kept, pushed}
-use Rattle.type_law.proofs.ProgramsTypeLemmas.{plain_fine, plain_more, plain_type, plain_variable, object_there}
+use Rattle.type_law.proofs.ProgramsTypeLemmas.{plain_fine}
+use Rattle.type_law.proofs.DeclarationsGoodTypes.{plain_more, plain_variable}
+use Rattle.type_law.proofs.DeclarationsTypedLeaves.{typed_plain}
+use Rattle.type_law.proofs.StatementsTypeLemmas.{has_object_type}
 use Rattle.type_law.proofs.ProgramsSound.{Extends, Grows, defines, entry_kept, is_file_meaning, is_file_entry, HasObject, Known, SoundTables, SoundProgress, HasStart, object_kept, extends_back, tables_moved}
 use Rattle.type_law.proofs.ProgramsOpened.{some_same, files_more}
 use Rattle.type_law.proofs.ProgramsValues.{init_sound, padded_fits}
@@ -209,7 +212,7 @@ one_global objects sizes leaves marks rest given st i t base none =
     let many : length g.cells ≡ count = ap length counted.start ∙ padded_many count init.values in
     let limit : cells_with st.cells count ≤ globals_limit = let a = counted.cells in let b = counted.limit in omega (arith, a, b) in
     let cells : cells_with st.cells count ≡ st.cells + length g.cells = let a = counted.cells in omega (arith, a, many) in
-    let has : HasObject (length st.structs) (object_of given d) (Some g) = record { global = g; is = refl; good = plain_variable (length st.structs) ty plain; has = object_there (length st.structs) ty (plain_variable (length st.structs) ty plain); fixed = refl } in
+    let has : HasObject (length st.structs) (object_of given d) (Some g) = record { global = g; is = refl; good = plain_variable (length st.structs) ty plain; has = sym (has_object_type (length st.structs) ty (plain_variable (length st.structs) ty plain)); fixed = refl } in
     let first = leaves st.structs [] ty d.name.span (subst (λ s. SoundStructs s) (sym (append_nil st.structs)) t.structs) plain small in
     let same = (init_sound known st.structs ty i.init (typed.leaves_of (infos_of (st.structs ++ [])) (object_type_of ty)) first (plain_fine (length st.structs) ty plain) none_init).same in
     let tables = one_tables marks rest st d.name.bytes (object_of given d) g (cells_with st.cells count) t (none_where_new st.env.file d.name.bytes new) has cells limit
@@ -245,7 +248,7 @@ one_global objects sizes leaves marks rest given st i t base none =
         let filled : IsTrue (cells_fit ts (start_cells st.cells (cells_of st.structs ty) init.values)) =
         subst (λ cs. IsTrue (cells_fit ts cs)) (sym start) (subst (λ n. IsTrue (cells_fit ts (padded n init.values))) size.0 (padded_fits ts init.values fits)) in
         both_hold (is_plain_type (length all) (object_type_of ty) && is_small all (object_type_of ty)) (true && cells_fit ts (start_cells st.cells (cells_of st.structs ty) init.values))
-        (both_hold (is_plain_type (length all) (object_type_of ty)) (is_small all (object_type_of ty)) (plain_type (length all) ty (plain_more (length st.structs) (length all) structs ty plain)) size.1)
+        (both_hold (is_plain_type (length all) (object_type_of ty)) (is_small all (object_type_of ty)) (typed_plain (length all) ty (plain_more (length st.structs) (length all) ty structs plain)) size.1)
         filled
 
 -- ---- all declarators, and declarations

@@ -34,7 +34,9 @@ use Rattle.check_programs.specs.Unions.{marks_at}
 use Rattle.check_programs.specs.Progress.{Progress}
 use Rattle.type_law.proofs.ProgramsListLemmas.{all_weaker, get_pushed, IsLast}
 use Rattle.type_law.proofs.ProgramsTableLemmas.{sought, value_of, found, new_where_none, sought_pushed, sought_kept, pushed}
-use Rattle.type_law.proofs.ProgramsTypeLemmas.{result_fine, agree_same, all_agree_same, result_given, params_taken, params_many, params_marked, params_lead_vars, integers_taken, parameter_variable, variable_more, variable_type, parameter_small}
+use Rattle.type_law.proofs.ProgramsTypeLemmas.{result_fine, agree_same, all_agree_same, result_given, params_taken, params_many, params_marked, params_lead_vars, integers_taken, parameter_small}
+use Rattle.type_law.proofs.DeclarationsGoodTypes.{parameter_variable}
+use Rattle.type_law.proofs.StatementsTypeLemmas.{variable_type}
 use Rattle.type_law.proofs.ProgramsSound.{signatures, Extends, Grows, defines, SoundEntry, entry_kept, is_file_meaning, is_file_entry, Known, SoundTables, callable_kept, extends_back}
 use Rattle.type_law.proofs.ProgramsParameters.{SoundParams}
 
@@ -55,7 +57,7 @@ pub params_sound : (structs : List StructInfo) (n : ℕ) (xs : List Variable) �
 params_sound structs n [] h i = refl
 params_sound structs n (x ∷ xs) h i =
     let good = both_hold_first (is_parameter n x.ty) (list_all (is_parameter n) (map (λ x. x.ty) xs)) i in
-    let type = variable_type (length structs) x.ty (variable_more n (length structs) h x.ty (parameter_variable n x.ty good)) in
+    let type = variable_type n (length structs) x.ty h (parameter_variable n x.ty good) in
     let small = parameter_small structs n x.ty good in
     let all = params_sound structs n xs h (both_hold_second (is_parameter n x.ty) (list_all (is_parameter n) (map (λ x. x.ty) xs)) i) in
     and_both (variable_sound structs (var_of x)) (list_all (variable_sound structs) (map var_of xs))

@@ -33,7 +33,7 @@ use Rattle.check_programs.specs.Progress.{Progress}
 use Rattle.check_programs.specs.Unions.{marks_at}
 use Rattle.check_programs.specs.Globals.{globals_limit}
 use Rattle.type_law.proofs.ProgramsListLemmas.{all_weaker}
-use Rattle.type_law.proofs.ProgramsTypeLemmas.{variable_more, parameter_more}
+use Rattle.type_law.proofs.DeclarationsGoodTypes.{variable_more, parameter_more}
 use Rattle.type_law.proofs.ProgramsTableLemmas.{sought}
 
 -- ---- a tree that has what was made so far
@@ -201,12 +201,12 @@ callable_kept m n c o o' h f k = record {
   name = k.name;
   result = k.result;
   gives = k.gives;
-  params = all_weaker (is_parameter m) (is_parameter n) (parameter_more m n h) c.params k.params;
+  params = all_weaker (is_parameter m) (is_parameter n) (λ t. parameter_more m n t h) c.params k.params;
   takes = k.takes;
 }
 
 pub object_kept : (m n : ℕ) (o : Object) (x x' : Option TypedGlobal) → m ≤ n → ((g : TypedGlobal) → x ≡ Some g → x' ≡ Some g) → HasObject m o x → HasObject n o x'
-object_kept m n o x x' h f k = record { global = k.global; is = f k.global k.is; good = variable_more m n h o.ty k.good; has = k.has; fixed = k.fixed }
+object_kept m n o x x' h f k = record { global = k.global; is = f k.global k.is; good = variable_more m n o.ty h k.good; has = k.has; fixed = k.fixed }
 
 pub tables_moved : (marks : List ℕ → FunctionMarks) (rest rest' : List ItemTree) (st : Progress) (scopes : List (Named Meaning)) (variables : List Variable) (structs more : Structs) (has_main : Bool)
     → structs ≡ st.structs ++ more → SoundStructs structs → ((n : List ℕ) → defines rest n ≡ defines rest' n)

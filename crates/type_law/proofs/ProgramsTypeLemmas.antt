@@ -1,82 +1,32 @@
 -- Good types, and what the typed tree makes of them.
-use Rattle.std.proofs.Common.{◌≡◌, ◌≤◌, ◌+◌, ◌++◌, ◌∙◌, sym, ap, subst, refl, ℕ, zero, suc, Bool, true, false, List, [], ◌∷◌, length, arith, map, Some, nat_eq}
-use Rattle.std.specs.Prelude.{IsTrue, ◌&&◌, nat_lt, nat_le, slice_get, option_map}
+use Rattle.std.proofs.Common.{◌≡◌, ◌+◌, ◌++◌, ◌∙◌, sym, ap, subst, refl, ℕ, zero, suc, Bool, true, false, List, [], ◌∷◌, length, arith, map, Some, nat_eq}
+use Rattle.std.specs.Prelude.{IsTrue, ◌&&◌, slice_get, option_map}
 use Rattle.std.specs.List.{list_all}
 use Rattle.std.proofs.lemmas.Bool.Decides.{nat_tests}
-use Rattle.pt_base.specs.declared.int_type.IntType.{IntType}
 use Rattle.pt_base.proofs.Booleans.{both_hold, both_hold_first, both_hold_second}
-use Rattle.pt_tree.specs.declared.signature.Elem.{Elem}
 use Rattle.pt_tree.specs.declared.signature.Param.{Param}
-use Rattle.pt_tree.specs.declared.signature.Elem.TheVariants as elem
 use Rattle.type_rules.specs.declared.types.Type.{«Type»}
 use Rattle.type_rules.specs.declared.types.Type.TheVariants.{Bad, Void, Int, Struct, Array, Pointer}
 use Rattle.type_rules.specs.Types.{is_bad, is_integer, is_same_elem}
 use Rattle.type_rules.proofs.TypeLemmas.{same_int, same_elem}
 use Rattle.typed_tree.specs.declared.types.StructInfo.{StructInfo}
-use Rattle.typed_tree.specs.declared.types.VarTy.{VarTy}
 use Rattle.typed_tree.specs.declared.types.VarTy.TheVariants as v
 use Rattle.typed_tree.specs.Cells.{leaves_of}
 use Rattle.typed_tree.specs.TypeTests as typed
-use Rattle.typed_tree.specs.WellFormedExpression.{is_elem, param_type}
-use Rattle.typed_tree.specs.WellFormed.{is_plain_type, is_variable_type, is_small, params_lead, is_integer_param}
+use Rattle.typed_tree.specs.WellFormedExpression.{param_type}
+use Rattle.typed_tree.specs.WellFormed.{is_small, params_lead, is_integer_param}
 use Rattle.check_declarations.specs.declared.marks.Marks.{Marks}
 use Rattle.check_expressions.specs.declared.meaning.Variable.{Variable}
 use Rattle.check_expressions.specs.Operands.{var_type}
 use Rattle.check_expressions.specs.StructInfos.{object_type_of}
-use Rattle.type_law.specs.DeclarationsTypes.{is_variable, is_plain, is_parameter, is_result}
+use Rattle.type_law.specs.DeclarationsTypes.{is_plain, is_parameter, is_result}
 use Rattle.type_law.specs.ExpressionsAgreement.{taken}
 use Rattle.check_programs.specs.Functions.{agree, all_agree, var_of, param_of, params_of}
 use Rattle.check_programs.specs.Progress.{result_type_of}
 use Rattle.check_programs.specs.Unions.{marks_at}
-
--- ---- more structs
-
-below_more : (m n k : ℕ) → m ≤ n → IsTrue (nat_lt k m) → IsTrue (nat_lt k n)
-below_more m n k h i = grind (arith, nat_tests)
-
-pub elem_more : (m n : ℕ) → m ≤ n → (e : Elem) → IsTrue (is_elem m (Some e)) → IsTrue (is_elem n (Some e))
-elem_more m n h (elem.Int x) i = refl
-elem_more m n h (elem.Struct k) i = below_more m n k h i
-
-pub variable_more : (m n : ℕ) → m ≤ n → (x : «Type») → IsTrue (is_variable m x) → IsTrue (is_variable n x)
-variable_more m n h Bad i = i
-variable_more m n h Void i = i
-variable_more m n h (Int x) i = i
-variable_more m n h (Struct k) i = below_more m n k h i
-variable_more m n h (Array e count) i = both_hold _ _ (elem_more m n h e (both_hold_first (is_elem m (Some e)) (nat_le 1 count) i)) (both_hold_second (is_elem m (Some e)) (nat_le 1 count) i)
-variable_more m n h (Pointer e fixed) i = elem_more m n h e i
-
-pub plain_more : (m n : ℕ) → m ≤ n → (x : «Type») → IsTrue (is_plain m x) → IsTrue (is_plain n x)
-plain_more m n h Bad i = i
-plain_more m n h Void i = i
-plain_more m n h (Int x) i = i
-plain_more m n h (Struct k) i = below_more m n k h i
-plain_more m n h (Array e count) i = both_hold _ _ (elem_more m n h e (both_hold_first (is_elem m (Some e)) (nat_le 1 count) i)) (both_hold_second (is_elem m (Some e)) (nat_le 1 count) i)
-plain_more m n h (Pointer e fixed) i = i
-
-pub parameter_more : (m n : ℕ) → m ≤ n → (x : «Type») → IsTrue (is_parameter m x) → IsTrue (is_parameter n x)
-parameter_more m n h Bad i = i
-parameter_more m n h Void i = i
-parameter_more m n h (Int x) i = i
-parameter_more m n h (Struct k) i = i
-parameter_more m n h (Array e count) i = i
-parameter_more m n h (Pointer e fixed) i = elem_more m n h e i
-
-pub parameter_variable : (n : ℕ) (x : «Type») → IsTrue (is_parameter n x) → IsTrue (is_variable n x)
-parameter_variable n Bad i = i
-parameter_variable n Void i = i
-parameter_variable n (Int x) i = i
-parameter_variable n (Struct k) i = cc
-parameter_variable n (Array e count) i = cc
-parameter_variable n (Pointer e fixed) i = i
-
-pub plain_variable : (n : ℕ) (x : «Type») → IsTrue (is_plain n x) → IsTrue (is_variable n x)
-plain_variable n Bad i = i
-plain_variable n Void i = i
-plain_variable n (Int x) i = i
-plain_variable n (Struct k) i = i
-plain_variable n (Array e count) i = i
-plain_variable n (Pointer e fixed) i = cc
+use Rattle.typed_tree.proofs.SameTypes.{bool_self, type_self}
+use Rattle.type_law.proofs.DeclarationsGoodTypes.{parameter_variable}
+use Rattle.type_law.proofs.StatementsTypeLemmas.{has_object_type}
 
 pub parameter_fine : (n : ℕ) (x : «Type») → IsTrue (is_parameter n x) → is_bad x ≡ false
 parameter_fine n Bad i = cc
@@ -103,33 +53,6 @@ plain_fine n (Array e count) i = refl
 plain_fine n (Pointer e fixed) i = refl
 
 -- ---- as the typed tree has them
-
-pub object_there : (n : ℕ) (x : «Type») → IsTrue (is_variable n x) → Some (object_type_of x) ≡ var_type x
-unfolding var_type
-object_there n Bad i = cc
-object_there n Void i = cc
-object_there n (Int x) i = refl
-object_there n (Struct k) i = refl
-object_there n (Array e count) i = refl
-object_there n (Pointer e fixed) i = refl
-
-pub variable_type : (n : ℕ) (x : «Type») → IsTrue (is_variable n x) → IsTrue (is_variable_type n (object_type_of x))
-unfolding var_type
-variable_type n Bad i = cc
-variable_type n Void i = cc
-variable_type n (Int x) i = refl
-variable_type n (Struct k) i = i
-variable_type n (Array e count) i = i
-variable_type n (Pointer e fixed) i = i
-
-pub plain_type : (n : ℕ) (x : «Type») → IsTrue (is_plain n x) → IsTrue (is_plain_type n (object_type_of x))
-unfolding var_type
-plain_type n Bad i = cc
-plain_type n Void i = cc
-plain_type n (Int x) i = refl
-plain_type n (Struct k) i = i
-plain_type n (Array e count) i = i
-plain_type n (Pointer e fixed) i = cc
 
 pub parameter_small : (structs : List StructInfo) (n : ℕ) (x : «Type») → IsTrue (is_parameter n x) → IsTrue (is_small structs (object_type_of x))
 unfolding var_type leaves_of
@@ -200,23 +123,6 @@ pub params_many : (ms : List Marks) (k : ℕ) (xs : List «Type») → length (p
 params_many ms k [] = refl
 params_many ms k (x ∷ xs) = ap suc (params_many ms (k + 1) xs)
 
-same_self : (x : IntType) → IsTrue (typed.same_int x x)
-same_self x = grind (arith, nat_tests)
-
-same_elem_self : (e : Elem) → IsTrue (typed.same_elem e e)
-same_elem_self (elem.Int x) = same_self x
-same_elem_self (elem.Struct n) = grind (arith, nat_tests)
-
-same_bool_self : (b : Bool) → IsTrue (typed.same_bool b b)
-same_bool_self true = refl
-same_bool_self false = refl
-
-same_type_self : (x : VarTy) → IsTrue (typed.same_type x x)
-same_type_self (v.Int x) = same_self x
-same_type_self (v.Struct n) = grind (arith, nat_tests)
-same_type_self (v.Array e count) = both_hold (typed.same_elem e e) (nat_eq count count) (same_elem_self e) (grind (arith, nat_tests))
-same_type_self (v.Pointer e fixed) = both_hold (typed.same_elem e e) (typed.same_bool fixed fixed) (same_elem_self e) (same_bool_self fixed)
-
 -- each parameter has the marks of its position
 pub params_marked : (ms : List Marks) (k : ℕ) (xs : List «Type») (j : ℕ) (p : Param) → slice_get (params_of ms k xs) j ≡ Some p → p.marked ≡ (marks_at ms (k + j)).marked
 params_marked ms k [] j p h = cc
@@ -234,10 +140,10 @@ params_lead_vars n (p ∷ ps) (x ∷ xs) new h e m =
     let first : Some (param_type p.kind) ≡ var_type x.ty = cc in
     let rest : map taken ps ≡ map var_type (map (λ x. x.ty) xs) = cc in
     let good = parameter_variable n x.ty (both_hold_first (is_parameter n x.ty) (list_all (is_parameter n) (map (λ x. x.ty) xs)) h) in
-    let there = object_there n x.ty good in
+    let there = sym (has_object_type n x.ty good) in
     let same : param_type p.kind ≡ object_type_of x.ty = cc in
-    let type = subst (λ z. IsTrue (typed.same_type (param_type p.kind) z)) same (same_type_self (param_type p.kind)) in
-    let mark = subst (λ b. IsTrue (typed.same_bool p.marked b)) (m 0 p x refl refl) (same_bool_self p.marked) in
+    let type = subst (λ z. IsTrue (typed.same_type (param_type p.kind) z)) same (type_self (param_type p.kind)) in
+    let mark = subst (λ b. IsTrue (typed.same_bool p.marked b)) (m 0 p x refl refl) (bool_self p.marked) in
     both_hold (typed.same_type (param_type p.kind) (object_type_of x.ty) && typed.same_bool p.marked x.marked) (params_lead ps (map var_of (xs ++ new)))
     (both_hold (typed.same_type (param_type p.kind) (object_type_of x.ty)) (typed.same_bool p.marked x.marked) type mark)
     (params_lead_vars n ps xs new (both_hold_second (is_parameter n x.ty) (list_all (is_parameter n) (map (λ x. x.ty) xs)) h) rest (λ j q y a b. m (suc j) q y a b))

@@ -1,14 +1,10 @@
 -- What a global starts with, where its initialiser has no fault: numbers in the ranges of its integers.
 use Rattle.std.proofs.Common.{◌≡◌, ◌+◌, ◌-◌, ◌++◌, ◌∙◌, sym, ap, subst, refl, ℕ, suc, ℤ, pos, Bool, true, false, List, [], ◌∷◌, length, arith, map, take, Option, Some, None}
-use Rattle.std.specs.Prelude.{IsTrue, ◌&&◌, ◌≤ℤ◌, int_le, not, is_some, slice_get, replicate}
-use Rattle.std.proofs.lemmas.Int.{ints}
+use Rattle.std.specs.Prelude.{IsTrue, ◌&&◌, not, is_some, slice_get, replicate}
 use Rattle.pt_base.specs.declared.int_type.IntType.{IntType}
-use Rattle.pt_base.specs.declared.int_type.IntType.TheVariants as t
-use Rattle.pt_base.specs.IntTypes.{InRange, low_of, high_of}
 use Rattle.pt_base.proofs.Booleans.{both_hold, both_hold_first, both_hold_second}
 use Rattle.pt_base.proofs.Lists.{append_nil_first, append_nil_second, length_pushed}
 use Rattle.pt_int.specs.Conversion.{conv, is_in_range}
-use Rattle.pt_int.proofs.Conversions.{conv-in_range}
 use Rattle.pt_tree.specs.ExpressionTree as e
 use Rattle.pt_tree.specs.StatementTree.{InitTree, no_init, single, braces}
 use Rattle.type_rules.specs.declared.types.Type.{«Type»}
@@ -27,6 +23,8 @@ use Rattle.check_statements.specs.Leaves.{leaves_of}
 use Rattle.check_statements.specs.GlobalInitialisers.{GlobalInit, stored_in, misfit, item_of, excess_faults, global_items, global_initialised}
 use Rattle.check_programs.specs.Globals.{padded}
 use Rattle.type_law.proofs.DeclarationsFaultLemmas.{no_fault}
+use Rattle.type_law.proofs.StatementsGlobalStarts.{zeros_fit}
+use Rattle.type_law.proofs.StatementsLabels.{converted_in_range}
 
 -- ---- numbers in range
 
@@ -39,29 +37,6 @@ fits_front (x ∷ ts) (v ∷ vs) = is_in_range x v && fits_front ts vs
 front_none : (ts : List IntType) → IsTrue (fits_front ts [])
 front_none [] = refl
 front_none (x ∷ ts) = refl
-
-at_most : (a b : ℤ) → a ≤ℤ b → IsTrue (int_le a b)
-at_most a b h = grind (arith, ints)
-
-conv_fits : (x : IntType) (v : ℤ) → IsTrue (is_in_range x (conv x v))
-conv_fits x v =
-    let h : InRange x (conv x v) = conv-in_range x v in
-    both_hold (int_le (low_of x) (conv x v)) (int_le (conv x v) (high_of x)) (at_most (low_of x) (conv x v) h.0) (at_most (conv x v) (high_of x) h.1)
-
-zero_fits : (x : IntType) → IsTrue (is_in_range x (pos 0))
-zero_fits t.Char = refl
-zero_fits t.SChar = refl
-zero_fits t.UChar = refl
-zero_fits t.Short = refl
-zero_fits t.UShort = refl
-zero_fits t.Int = refl
-zero_fits t.UInt = refl
-zero_fits t.Long = refl
-zero_fits t.ULong = refl
-
-zeros_fit : (ts : List IntType) → IsTrue (cells_fit ts (replicate (length ts) (pos 0)))
-zeros_fit [] = refl
-zeros_fit (x ∷ ts) = both_hold (is_in_range x (pos 0)) (cells_fit ts (replicate (length ts) (pos 0))) (zero_fits x) (zeros_fit ts)
 
 pub padded_fits : (ts : List IntType) (vs : List ℤ) → IsTrue (fits_front ts vs) → IsTrue (cells_fit ts (padded (length ts) vs))
 padded_fits [] vs h = let none : 0 - length vs ≡ 0 = omega arith in subst (λ n. IsTrue (cells_fit [] (replicate n (pos 0)))) (sym none) refl
@@ -108,7 +83,7 @@ module _ (env : Env) (structs : Structs) (leaves : List «Type») where
   one_more x ts n a (Some m) es again none =
       let rest = global_items env structs leaves true (n + 1) es in
       let sound = again (append_nil_second (fault_if (misfit (Some (Int x)) m) WrongType (span_of a) ++ excess_faults true (Some (Int x)) a) rest.faults none) in
-      record { same = sound.same; fits = both_hold (is_in_range x (conv x m.value)) (fits_front ts rest.values) (conv_fits x m.value) sound.fits }
+      record { same = sound.same; fits = both_hold (is_in_range x (conv x m.value)) (fits_front ts rest.values) (converted_in_range x m.value) sound.fits }
   one_more x ts n a None es again none =
       let j = judge env structs a in
       let rest = global_items env j.structs leaves true (n + 1) es in
@@ -140,7 +115,7 @@ stored_fits structs Void v ts h = front_none ts
 stored_fits structs (Int x) v [] h = refl
 stored_fits structs (Int x) v (y ∷ ts) h =
     let same : x ≡ y = cc in
-    both_hold (is_in_range y (conv x v)) (fits_front ts []) (subst (λ z. IsTrue (is_in_range z (conv x v))) same (conv_fits x v)) (front_none ts)
+    both_hold (is_in_range y (conv x v)) (fits_front ts []) (subst (λ z. IsTrue (is_in_range z (conv x v))) same (converted_in_range x v)) (front_none ts)
 stored_fits structs (Struct n) v ts h = front_none ts
 stored_fits structs (Array d n) v ts h = front_none ts
 stored_fits structs (Pointer d f) v ts h = front_none ts

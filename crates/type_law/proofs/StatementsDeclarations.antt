@@ -32,9 +32,9 @@ use Rattle.check_statements.specs.Outermost.{State}
 use Rattle.check_statements.specs.Declarations.{known_variable, local_type, variable_of, variable_faults, declared_one, declared_all, declared, carrier_of}
 use Rattle.check_statements.specs.Statements.{for_begun, with_structs}
 use Rattle.type_law.specs.DeclarationsTypes.{is_base, is_variable}
-use Rattle.type_law.specs.DeclarationsSound.{SoundFrom}
 use Rattle.type_law.specs.ExpressionsAgreement.{Agrees}
 use Rattle.type_law.specs.StatementsLaws.{HasVariables, is_sound_variable}
+use Rattle.type_law.proofs.DeclarationsTableLemmas.{sound_prefix}
 use Rattle.type_law.proofs.StatementsListLemmas.{get_end}
 use Rattle.type_law.proofs.StatementsTypeLemmas.{variable_type}
 use Rattle.type_law.proofs.StatementsWalks.{initialiser_goes, declared_one_goes, declared_all_goes}
@@ -115,18 +115,13 @@ declared_all_sound laws sc given st (d ∷ ds) base r sound none =
     let second = declared_all_sound laws sc given one.state ds base' next later (append_nil_second one.faults rest.faults none) in
     (keeps_on sc.names st one.state rest.state first.0 second.0, both_hold (declarator_fits sc one.declarator) (declaration_fits sc rest.declarators) first.1 second.1)
 
--- the first structs of a sound table are sound
-sound_before : (before xs ys : Structs) → SoundFrom before (xs ++ ys) → SoundFrom before xs
-sound_before before [] ys h = tt
-sound_before before (x ∷ xs) ys h = (h.0, sound_before (before ++ x ∷ []) xs ys h.1)
-
 pub declared_sound : (laws : Laws) (sc : Scope) (st : State) (d : DeclarationTree) → Ready sc st (declared st d).state (declared st d).trees → IsTrue (declaration_sound d) → (declared st d).faults ≡ [] → Keeps sc.names st (declared st d).state × IsTrue (declaration_fits sc (declared st d).declaration.declarators)
 declared_sound laws sc st d r sound none =
     let j = specified false st.structs d.specs in
     let before = with_structs st j.structs in
     let all = declared_all j.given before d.declarators in
     let marks = mark_faults (carrier_of d.declarators) j.given.attributes in
-    let s = laws.specifiers false st.structs d.specs (sound_before [] st.structs r.agrees.more r.agrees.sound) (append_nil_first j.faults marks (append_nil_first (j.faults ++ marks) all.faults none)) in
+    let s = laws.specifiers false st.structs d.specs (sound_prefix st.structs r.agrees.more r.agrees.sound) (append_nil_first j.faults marks (append_nil_first (j.faults ++ marks) all.faults none)) in
     let same = s.none refl in
     let agrees = subst (λ (x : Structs). Agrees st.env x sc.names) (sym same) r.agrees in
     let ready : Ready sc before all.state all.trees = record { agrees = agrees; variables = r.variables; stand = r.stand } in

@@ -44,7 +44,7 @@ Starts (t ∷ ts) (v ∷ vs) = IsTrue (is_in_range t v) × Starts ts vs
 zero_in_range : (t : IntType) → IsTrue (is_in_range t (pos 0))
 zero_in_range t = let z = around_zero t in grind (arith, ints, z.0, z.1)
 
-zeros_fit : (ts : List IntType) → IsTrue (cells_fit ts (replicate (length ts) (pos 0)))
+pub zeros_fit : (ts : List IntType) → IsTrue (cells_fit ts (replicate (length ts) (pos 0)))
 zeros_fit [] = refl
 zeros_fit (t ∷ ts) = both_hold (is_in_range t (pos 0)) (cells_fit ts (replicate (length ts) (pos 0))) (zero_in_range t) (zeros_fit ts)
 

@@ -29,7 +29,8 @@ use Rattle.check_statements.specs.Statements.{switched, given_back, wants_value}
 use Rattle.type_law.specs.DeclarationsTypes.{is_variable, is_result}
 use Rattle.type_law.specs.ExpressionsAgreement.{Agrees}
 use Rattle.type_law.specs.ExpressionsLaws.{SoundValue}
-use Rattle.type_law.proofs.StatementsTypeLemmas.{has_object_type, condition_type, no_void, taking, switch_type, same_int_self, same_type_self}
+use Rattle.typed_tree.proofs.SameTypes.{int_self, type_self}
+use Rattle.type_law.proofs.StatementsTypeLemmas.{has_object_type, condition_type, no_void, taking, switch_type}
 use Rattle.type_law.proofs.StatementsEnvironments.{structs_within}
 use Rattle.type_law.proofs.StatementsGiven.{Laws, Returns, Ready, Keeps, keeps_nowhere, keeps_behind}
 use Rattle.type_law.proofs.DeclarationsFaultLemmas.{no_fault}
@@ -87,7 +88,7 @@ fitted_sound laws sc st ty a agrees here sound good none =
 pub takes_same : (sc : Scope) (structs : ℕ) (ty : «Type») (id : ExprId) → IsTrue (is_variable structs ty) → Taken sc ty id → IsTrue (expr_fits sc (same_types (Some (object_type_of ty))) id)
 takes_same sc structs ty id good t =
     t.fits (same_types (Some (object_type_of ty)))
-    (subst (λ (o : Option VarTy). IsTrue (same_types (Some (object_type_of ty)) o)) (sym (has_object_type structs ty good)) (same_type_self (object_type_of ty)))
+    (subst (λ (o : Option VarTy). IsTrue (same_types (Some (object_type_of ty)) o)) (sym (has_object_type structs ty good)) (type_self (object_type_of ty)))
 
 -- ---- expressions that may be left out
 
@@ -114,7 +115,7 @@ no_result (Some t) (Pointer e fixed) good is wants = cc
 result_type : (result : Option IntType) (t : IntType) → option_map v.Int result ≡ var_type (Int t) → IsTrue (both_int (integer_of (var_type (Int t))) result)
 unfolding var_type
 result_type None t is = cc
-result_type (Some u) t is = let same : Some u ≡ Some t = ap integer_of is in subst (λ (o : Option IntType). IsTrue (both_int (Some t) o)) (sym same) (same_int_self t)
+result_type (Some u) t is = let same : Some u ≡ Some t = ap integer_of is in subst (λ (o : Option IntType). IsTrue (both_int (Some t) o)) (sym same) (int_self t)
 
 -- a value that is given back
 value_back : (laws : Laws) (sc : Scope) (st : State) (ty : «Type») (a : e.ExprTree) → Returns sc ty → Agrees st.env st.structs sc.names → slice_get sc.exprs st.next ≡ Some (fitted st ty a).tree → IsTrue (expr_sound a) → (fitted st ty a).faults ≡ [] → Keeps sc.names st (fitted st ty a).state × IsTrue (return_fits sc (Some (fitted st ty a).id))

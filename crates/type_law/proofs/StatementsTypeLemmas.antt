@@ -1,19 +1,15 @@
 -- Types as the typed tree has them, and what the rules of conversions say of them.
-use Rattle.std.proofs.Common.{◌≡◌, ◌≤◌, ℕ, refl, Bool, true, false, arith, Some}
-use Rattle.std.specs.Prelude.{IsTrue, nat_le, nat_eq}
+use Rattle.std.proofs.Common.{◌≡◌, ◌≤◌, ℕ, refl, Bool, false, arith, Some}
+use Rattle.std.specs.Prelude.{IsTrue, nat_le}
 use Rattle.std.proofs.lemmas.Bool.Decides.{nat_tests}
-use Rattle.pt_base.specs.declared.int_type.IntType.{IntType}
 use Rattle.pt_base.specs.IntTypes.{promoted}
 use Rattle.pt_base.proofs.Booleans.{both_hold, both_hold_first, both_hold_second}
 use Rattle.pt_tree.specs.declared.signature.Elem.{Elem}
-use Rattle.pt_tree.specs.declared.signature.Elem.TheVariants as elem
 use Rattle.type_rules.specs.declared.types.Type.{«Type»}
 use Rattle.type_rules.specs.declared.types.Type.TheVariants.{Bad, Void, Int, Struct, Array, Pointer}
 use Rattle.type_rules.specs.declared.types.Value.{Value}
 use Rattle.type_rules.specs.Conversions.{condition_rule, fit_rule, is_wrong}
-use Rattle.typed_tree.specs.declared.types.VarTy.{VarTy}
-use Rattle.typed_tree.specs.declared.types.VarTy.TheVariants as v
-use Rattle.typed_tree.specs.TypeTests.{place_of, same_int, same_bool, same_elem, same_type, is_scalar, is_value}
+use Rattle.typed_tree.specs.TypeTests.{is_scalar, is_value}
 use Rattle.typed_tree.specs.WellFormed.{is_variable_type}
 use Rattle.typed_tree.specs.WellFormedExpression.{is_elem}
 use Rattle.typed_tree.specs.WellFormedStatement.{promotes_to}
@@ -22,6 +18,8 @@ use Rattle.check_expressions.specs.StructInfos.{object_type_of}
 use Rattle.check_statements.specs.Labels.{kind_of, is_no_integer}
 use Rattle.check_statements.specs.Outermost.{is_no_condition}
 use Rattle.type_law.specs.DeclarationsTypes.{is_good, is_variable}
+use Rattle.typed_tree.proofs.SameTypes.{int_self}
+use Rattle.type_law.proofs.DeclarationsGoodTypes.{elem_more}
 
 -- ---- objects
 
@@ -34,10 +32,6 @@ has_object_type structs (Struct n) h = refl
 has_object_type structs (Array e count) h = refl
 has_object_type structs (Pointer e fixed) h = refl
 
-elem_more : (structs more : ℕ) (e : Elem) → structs ≤ more → IsTrue (is_elem structs (Some e)) → IsTrue (is_elem more (Some e))
-elem_more structs more (elem.Int t) within h = refl
-elem_more structs more (elem.Struct n) within h = grind (arith, nat_tests, within, h)
-
 pub variable_type : (structs more : ℕ) (t : «Type») → structs ≤ more → IsTrue (is_variable structs t) → IsTrue (is_variable_type more (object_type_of t))
 unfolding var_type
 variable_type structs more Bad within h = cc
@@ -49,28 +43,6 @@ variable_type structs more (Array e count) within h =
     (elem_more structs more e within (both_hold_first (is_elem structs (Some e)) (nat_le 1 count) h))
     (both_hold_second (is_elem structs (Some e)) (nat_le 1 count) h)
 variable_type structs more (Pointer e fixed) within h = elem_more structs more e within h
-
--- ---- equal types
-
-same_number : (n : ℕ) → IsTrue (nat_eq n n)
-same_number n = grind (arith, nat_tests)
-
-pub same_int_self : (t : IntType) → IsTrue (same_int t t)
-same_int_self t = same_number (place_of t)
-
-same_bool_self : (b : Bool) → IsTrue (same_bool b b)
-same_bool_self true = refl
-same_bool_self false = refl
-
-same_elem_self : (e : Elem) → IsTrue (same_elem e e)
-same_elem_self (elem.Int t) = same_int_self t
-same_elem_self (elem.Struct n) = same_number n
-
-pub same_type_self : (t : VarTy) → IsTrue (same_type t t)
-same_type_self (v.Int t) = same_int_self t
-same_type_self (v.Struct n) = same_number n
-same_type_self (v.Array e count) = both_hold (same_elem e e) (nat_eq count count) (same_elem_self e) (same_number count)
-same_type_self (v.Pointer e fixed) = both_hold (same_elem e e) (same_bool fixed fixed) (same_elem_self e) (same_bool_self fixed)
 
 -- ---- values
 
@@ -118,7 +90,7 @@ pub switch_type : (structs : ℕ) (t : «Type») → IsTrue (is_good structs t) 
 unfolding var_type
 switch_type structs Bad good h = cc
 switch_type structs Void good h = cc
-switch_type structs (Int t) good h = (refl, same_int_self (promoted t))
+switch_type structs (Int t) good h = (refl, int_self (promoted t))
 switch_type structs (Struct n) good h = cc
 switch_type structs (Array e count) good h = cc
 switch_type structs (Pointer e fixed) good h = cc

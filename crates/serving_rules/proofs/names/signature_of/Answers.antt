@@ -2,7 +2,7 @@ use Rattle.std.proofs.Common.{◌∙◌, Some, ap, rules, sym}
 use Rattle.std.proofs.lemmas.List.Sorted.{answers_always}
 use Rattle.pt_base.specs.declared.ids.FnId.{FnId}
 use Rattle.pt_tree.specs.declared.signature.Signature.{Signature}
-use Rattle.serving_rules.proofs.SearchLemmas.{found_signature, no_signature}
+use Rattle.code_rules.proofs.SearchLemmas.{found_signature, no_signature}
 use Rattle.serving_rules.proofs.names.signature_of.Goals as goal
 
 pub returns-in-Ok : goal.returns-in-Ok
