@@ -1,5 +1,6 @@
 mod BeginLemmas
 mod ClearLemmas
+mod FlatLemmas
 mod FrameLemmas
 mod HeldLemmas
 mod LayoutLemmas

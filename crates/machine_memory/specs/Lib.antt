@@ -1,3 +1,4 @@
+pub mod Flats
 pub mod Frames
 pub mod Held
 pub mod Laws

@@ -1,8 +1,8 @@
 // Making a variable as it is when its declaration is reached.
+use crate::flat::Flat;
 use crate::memory::MachineMemory;
 use crate::place::Found;
 use crate::variables::find_in;
-use block_memory::Pointer;
 
 #[tactic(auto, unfolding(crate::specs::Memory::blocks_of, crate::specs::Memory::layouts_of, crate::specs::Memory::frame_at, crate::specs::Memory::live_count))]
 impl MachineMemory {
@@ -55,7 +55,7 @@ impl MachineMemory {
                 true
             }
             Found::Pointer(at) => {
-                self.set_pointer_in(depth, number, at, Pointer::Null);
+                self.set_pointer_in(depth, number, at, Flat::null());
                 true
             }
             // It has no cells, so there is nothing to do.

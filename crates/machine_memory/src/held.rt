@@ -1,7 +1,7 @@
 // A block of integers that stands by itself.
 ghost use Rattle.std.specs.Prelude.{◌≡◌, ◌<◌, false, length};
 ghost use Rattle.std.specs.Bool.{OnTrue};
-ghost use Rattle.machine_memory.specs.Held.{IsRead, IsReading, ReadsAll};
+ghost use Rattle.machine_memory.specs.Held.{AreAlike, AreMany, IsRead, IsReading};
 
 use crate::cells::Cells;
 use crate::packing::{cell_at, is_wide, packed, unpacked, word_for};
@@ -16,6 +16,10 @@ use std::marker::Model;
 pub(crate) struct HeldBlock {
     types: Vec<IntType>,
     words: Vec<i64>,
+    // How many words there are, if the block is closed and each is read with a sign, else 0.
+    signed_count: usize,
+    // The same if all are read alike, whichever way.
+    alike_count: usize,
     opened: bool,
     reading: Reading,
     cells: Cells,
@@ -30,11 +34,11 @@ impl Model for HeldBlock {
 
     ghost view = { λ b. record { types = b.types.items; cells = held_cells b.types.items b.words.items b.opened b.cells } };
 
-    ghost invariant = { λ b. IsKept b.types.items b.words.items b.opened b.reading b.cells };
+    ghost invariant = { λ b. IsKept b.types.items b.words.items b.signed_count b.alike_count b.opened b.reading b.cells };
 }
 
 impl HeldBlock {
-    ghost use Rattle.std.specs.Prelude.{◌≡◌, false, length, IfOk, IfSome, OnErr, OnOk, pos, slice_get, slice_index_or, Some};
+    ghost use Rattle.std.specs.Prelude.{◌≡◌, false, length, IfOk, IfSome, None, OnErr, OnOk, pos, slice_get, slice_index_or, Some};
     ghost use Rattle.block_memory.specs.declared.cell.Cell.TheVariants.{Int};
     ghost use Rattle.block_memory.specs.Block.{no_block, with_cell};
     ghost use Rattle.word_arithmetic.specs.Words.{number_of};
@@ -48,6 +52,8 @@ impl HeldBlock {
         HeldBlock {
             types: Vec::new(alloc),
             words: Vec::new(alloc),
+            signed_count: 0,
+            alike_count: 0,
             opened: false,
             reading: Reading::Each,
             cells: Cells::new(Vec::new(alloc)),
@@ -65,16 +71,23 @@ impl HeldBlock {
     {
         let own = Vec::from_slice(alloc, types)?;
         match packed(alloc, types, cells)? {
-            Some(words) => Ok(HeldBlock {
-                types: own,
-                words,
-                opened: false,
-                reading: common_reading(types),
-                cells: Cells::new(Vec::new(alloc)),
-            }),
+            Some(words) => {
+                let reading = common_reading(types);
+                Ok(HeldBlock {
+                    types: own,
+                    words,
+                    signed_count: signed_among(types, reading),
+                    alike_count: alike_among(types, reading),
+                    opened: false,
+                    reading,
+                    cells: Cells::new(Vec::new(alloc)),
+                })
+            }
             None => Ok(HeldBlock {
                 types: own,
                 words: vec![in alloc; 0i64; types.len()]?,
+                signed_count: 0,
+                alike_count: 0,
                 opened: true,
                 reading: Reading::Each,
                 cells: Cells::new(Vec::from_slice(alloc, cells)?),
@@ -133,13 +146,24 @@ impl HeldBlock {
         }
     }
 
-    /// The word of an integer, if it is there and the words of the block are all read so, or alike
-    /// where that is all that is asked.
+    /// The word of an integer, if it is there and the words of the block are all read with a sign.
     #[inline(always)]
-    pub(crate) fn common_word(&self, at: usize, wide: Option<bool>) -> Option<i64>
-        ensures { IfSome result (IsWordOf wide (slice_get self.now.cells at)) }
+    pub(crate) fn signed_word(&self, at: usize) -> Option<i64>
+        ensures { IfSome result (IsWordOf (Some false) (slice_get self.now.cells at)) }
     {
-        if at < self.words.len() && reads(self.reading, wide) {
+        if at < self.signed_count {
+            Some(self.words[at])
+        } else {
+            None
+        }
+    }
+
+    /// The same if they are all read alike.
+    #[inline(always)]
+    pub(crate) fn alike_word(&self, at: usize) -> Option<i64>
+        ensures { IfSome result (IsWordOf None (slice_get self.now.cells at)) }
+    {
+        if at < self.alike_count {
             Some(self.words[at])
         } else {
             None
@@ -152,7 +176,7 @@ impl HeldBlock {
     pub(crate) fn put_signed(&mut self, at: usize, w: i64) -> bool
         ensures { Writes result self.old self.new at (Int (number_of false w)) }
     {
-        if at < self.words.len() && reads(self.reading, Some(false)) {
+        if at < self.signed_count {
             self.words[at] = w;
             true
         } else {
@@ -220,6 +244,8 @@ impl HeldBlock {
         ensures { self.new ≡ with_cell self.old at c }
     {
         self.opened = true;
+        self.signed_count = 0;
+        self.alike_count = 0;
         self.reading = Reading::Each;
         self.cells = cells;
         self.cells.write(at, c);
@@ -235,24 +261,6 @@ pub(crate) enum Reading {
     Wide,
     /// Each by its own type, if it is closed.
     Each,
-}
-
-// Whether all words are read so, or alike where that is all that is asked.
-#[inline(always)]
-fn reads(reading: Reading, wide: Option<bool>) -> bool
-    ensures { OnTrue result (ReadsAll reading wide) }
-{
-    match reading {
-        Reading::Signed => match wide {
-            None | Some(false) => true,
-            Some(true) => false,
-        },
-        Reading::Wide => match wide {
-            None | Some(true) => true,
-            Some(false) => false,
-        },
-        Reading::Each => false,
-    }
 }
 
 // Whether the block is closed and the integer at a place is read so.
@@ -292,4 +300,28 @@ fn common_reading(types: &[IntType]) -> Reading
         }
     }
     if wide { Reading::Wide } else { Reading::Signed }
+}
+
+// How many words of a closed block are read with a sign: all of them, or none is promised.
+fn signed_among(types: &[IntType], reading: Reading) -> usize
+    requires { IsReading types.now false reading }
+    ensures { AreMany types.now false false result }
+{
+    match reading {
+        Reading::Signed => types.len(),
+        Reading::Wide => 0,
+        Reading::Each => 0,
+    }
+}
+
+// The same of words that are read alike, whichever way.
+fn alike_among(types: &[IntType], reading: Reading) -> usize
+    requires { IsReading types.now false reading }
+    ensures { AreAlike types.now false result }
+{
+    match reading {
+        Reading::Signed => types.len(),
+        Reading::Wide => types.len(),
+        Reading::Each => 0,
+    }
 }

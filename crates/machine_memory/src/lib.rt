@@ -4,6 +4,7 @@
 mod cells;
 mod clear;
 mod fast;
+mod flat;
 mod frame;
 mod held;
 mod laws;
@@ -12,10 +13,12 @@ mod locals;
 mod memory;
 mod packing;
 mod place;
+mod pointer_kind;
 mod table;
 mod variables;
 mod write;
 
+pub use flat::Flat;
 pub use laws::{
     blocks_have_shapes, constants_stand, frames_fit, pointers_stand_for_cells,
     words_stand_for_cells,
@@ -23,3 +26,4 @@ pub use laws::{
 pub use layout::{Layout, SPARE};
 pub use memory::MachineMemory;
 pub use place::Place;
+pub use pointer_kind::PointerKind;

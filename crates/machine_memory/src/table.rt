@@ -21,7 +21,7 @@ impl Model for Table {
 }
 
 impl Table {
-    ghost use Rattle.std.specs.Prelude.{◌≡◌, ◌<◌, [], length, IfSome, OnOk, OnErr, pos, slice_get, slice_index_or, Some, true, false};
+    ghost use Rattle.std.specs.Prelude.{◌≡◌, ◌<◌, [], length, IfSome, None, OnOk, OnErr, pos, slice_get, slice_index_or, Some, true, false};
     ghost use Rattle.block_memory.specs.declared.cell.Cell.TheVariants.{Int};
     ghost use Rattle.block_memory.specs.Block.{no_block, with_cell};
     ghost use Rattle.block_memory.specs.Table.{numbered, SameBlocks, SetsBlock};
@@ -88,14 +88,25 @@ impl Table {
         number < self.blocks.len() && self.blocks[number].put_word(at, w, wide)
     }
 
-    /// The word of an integer, if it is there and the words of its block are all read so, or alike
-    /// where that is all that is asked.
+    /// The word of an integer, if it is there and the words of its block are all read with a sign.
     #[inline(always)]
-    pub(crate) fn common_word(&self, number: usize, at: usize, wide: Option<bool>) -> Option<i64>
-        ensures { IfSome result (IsWordOf wide (slice_get (numbered self.now number).cells at)) }
+    pub(crate) fn signed_word(&self, number: usize, at: usize) -> Option<i64>
+        ensures { IfSome result (IsWordOf (Some false) (slice_get (numbered self.now number).cells at)) }
     {
         if number < self.blocks.len() {
-            self.blocks[number].common_word(at, wide)
+            self.blocks[number].signed_word(at)
+        } else {
+            None
+        }
+    }
+
+    /// The same if they are all read alike.
+    #[inline(always)]
+    pub(crate) fn alike_word(&self, number: usize, at: usize) -> Option<i64>
+        ensures { IfSome result (IsWordOf None (slice_get (numbered self.now number).cells at)) }
+    {
+        if number < self.blocks.len() {
+            self.blocks[number].alike_word(at)
         } else {
             None
         }

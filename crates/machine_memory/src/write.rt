@@ -8,13 +8,14 @@ ghost use Rattle.machine_memory.specs.Frames.{IsSized, layout_in};
 ghost use Rattle.machine_memory.specs.Words.{local_blocks};
 
 use crate::cells::Cells;
+use crate::flat::Flat;
 use crate::frame::Frame;
 use crate::layout::Layout;
 use crate::memory::MachineMemory;
 use crate::packing::{unpacked, word_for};
 use crate::place::Found;
 use crate::variables::find_in;
-use block_memory::{BlockName, BlockShape, Cell, CellAt, Pointer};
+use block_memory::{BlockName, BlockShape, Cell, CellAt};
 use std::alloc::{AllocError, Global};
 
 #[tactic(auto, unfolding(crate::specs::Memory::blocks_of, crate::specs::Memory::layouts_of, crate::specs::Memory::frame_at, crate::specs::Memory::live_count))]
@@ -79,7 +80,7 @@ impl MachineMemory {
             },
             Found::Pointer(at) => match c {
                 Cell::Ptr(p) => {
-                    self.set_pointer_in(depth, number, at, *p);
+                    self.set_pointer_in(depth, number, at, Flat::of(*p));
                     true
                 }
                 Cell::Int(_) | Cell::Sealed(_) => false,
@@ -187,7 +188,7 @@ fn cells_of(
     alloc: Global,
     shapes: &[BlockShape],
     words: &[i64],
-    entries: &[Pointer],
+    entries: &[Flat],
 ) -> Result<Vec<Cells>, AllocError>
     requires words { integers shapes.now ≤ length words.now }
     requires entries { pointers shapes.now ≤ length entries.now }
@@ -213,11 +214,11 @@ fn cells_of(
 }
 
 // The cell of a pointer.
-fn pointer_cells(alloc: Global, entries: &[Pointer], at: usize) -> Result<Cells, AllocError>
+fn pointer_cells(alloc: Global, entries: &[Flat], at: usize) -> Result<Cells, AllocError>
     requires { at < length entries.now }
     ensures { IfOk result (λ cells. cells ≡ Ptr (slice_index_or entries.now at Null) ∷ []) }
 {
     let mut cells = Vec::new(alloc);
-    cells.push(Cell::Ptr(entries[at]))?;
+    cells.push(Cell::Ptr(entries[at].pointer()))?;
     Ok(Cells::new(cells))
 }

@@ -1,4 +1,4 @@
-use Rattle.std.proofs.Common.{◌∙◌, ap, length, length-set, List, sym}
+use Rattle.std.proofs.Common.{◌∙◌, ap, false, inl, length, length-set, List, refl, sym}
 use Rattle.block_memory.specs.declared.cell.Cell.{Cell}
 use Rattle.machine_memory.proofs.HeldLemmas.{held_len}
 use Rattle.machine_memory.proofs.held.HeldBlock.open_with.Goals as goal
@@ -14,4 +14,6 @@ invariant_of-self c = record {
         ∙ sym (held_len _ _ _ _ _ c.self.view_is c.self.invariant.held);
   };
   read = tt;
+  signed = inl refl;
+  alike = (false, inl refl);
 }

@@ -1,7 +1,9 @@
 use Rattle.std.proofs.Common.{◌≡◌, ◌∙◌, ◌≤◌, ap, get_or, length, List, map, subst, sym}
 use Rattle.std.proofs.lemmas.List.{get_or_default}
 use Rattle.block_memory.specs.declared.cell.BlockName.TheVariants.{Local}
-use Rattle.block_memory.specs.Block.{fresh, no_block}
+use Rattle.block_memory.specs.declared.cell.Cell.TheVariants.{Ptr}
+use Rattle.block_memory.specs.declared.cell.Pointer.{Pointer}
+use Rattle.block_memory.specs.Block.{fresh, no_block, with_cell}
 use Rattle.block_memory.specs.Blocks.{put}
 use Rattle.machine_memory.specs.Layouts.{FrameLayout, IsInteger, IsPointer, no_layout}
 use Rattle.machine_memory.specs.Frames.{layout_in}
@@ -32,6 +34,7 @@ returns-in-Pointer-clause-cleared c =
     let m = c.args.self.now in
     let is = subst (λ (ls : List FrameLayout). IsPointer (layout_in ls c.args.number).shapes c.args.var c.in-Pointer.at) c.deref.ensures.value c.in-Pointer.ensures.0 in
     c.set_pointer_in.ensures.pointer c.args.var is
+    ∙ ap (λ (p : Pointer). put (blocks_of m) (Local c.args.depth c.args.var) (with_cell (blocks_of m (Local c.args.depth c.args.var)) 0 (Ptr p))) c.null.ensures
     ∙ ap (put (blocks_of m) (Local c.args.depth c.args.var)) (pointer-fresh m c.args.depth c.args.number c.args.var c.in-Pointer.at c.requires.stands is)
 
 pub returns-in-Missing-clause-cleared : goal.returns-in-Missing-clause-cleared

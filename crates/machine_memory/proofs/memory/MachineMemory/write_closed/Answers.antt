@@ -3,6 +3,7 @@ use Rattle.std.proofs.lemmas.Int.{to_z-of_z}
 use Rattle.block_memory.specs.declared.cell.BlockName.TheVariants.{Local}
 use Rattle.block_memory.specs.declared.cell.Cell.{Cell}
 use Rattle.block_memory.specs.declared.cell.Cell.TheVariants.{Ptr}
+use Rattle.block_memory.specs.declared.cell.Pointer.{Pointer}
 use Rattle.block_memory.specs.Block.{with_cell}
 use Rattle.block_memory.specs.Blocks.{put}
 use Rattle.machine_memory.specs.Layouts.{FrameLayout, IsInteger, IsPointer}
@@ -40,5 +41,6 @@ returns-in-Ptr-clause-written c =
     let is = subst (λ (ls : List FrameLayout). IsPointer (layout_in ls c.layout-number.result).shapes c.args.var c.in-Pointer.at) c.deref.ensures.value c.in-Pointer.ensures.0 in
     let write = λ (k : ℕ) (x : Cell). put (blocks_of c.args.self.now) (Local c.args.depth c.args.var) (with_cell (blocks_of c.args.self.now (Local c.args.depth c.args.var)) k x) in
     c.set_pointer_in.ensures.pointer c.args.var is
+    ∙ ap (λ (p : Pointer). write 0 (Ptr p)) c.of.ensures
     ∙ ap (λ k. write k (Ptr c.in-Ptr.p)) (sym c.in-Pointer.ensures.1)
     ∙ ap (write c.args.cell) (sym c.in-Ptr.is)
