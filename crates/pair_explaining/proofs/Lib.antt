@@ -1,5 +1,4 @@
 pub mod Cuts
-pub mod GivenBlocks
 pub mod Reports
 mod ShownLines
 pub mod Told

@@ -9,7 +9,6 @@ pub mod SpawnedPairLinks
 mod SpawnedPairServing
 mod GeneratedPairOutcomes
 pub mod GeneratedPairRuns
-pub mod HonestTalksAnywhere
 pub mod HonestTalksBegun
 pub mod HonestTalksCutting
 pub mod HonestTalksForms

@@ -8,6 +8,5 @@ pub mod OneSides
 pub mod PatternLemmas
 pub mod PlaceLemmas
 pub mod RoomLemmas
-pub mod SeedLemmas
 pub mod StandLemmas
 pub mod Worked
