@@ -9,7 +9,7 @@ use Rattle.type_rules.specs.declared.types.Type.{«Type»}
 use Rattle.check_declarations.specs.Structs.{Structs}
 use Rattle.check_expressions.specs.Environment.{Env}
 use Rattle.check_statements.specs.GlobalInitialisers.{GlobalInit, global_item, excess_faults, global_items}
-use Rattle.check_statements.proofs.LeafLemmas.{AreAlike, alike_at}
+use Rattle.typed_tree.proofs.AlikeLists.{AreAlike, alike_at}
 
 abbrev step : Env → Structs → Bool → ExprTree → Option «Type» → GlobalInit → GlobalInit
 step env structs c a leaf rest =

@@ -9,7 +9,7 @@ use Rattle.typed_tree.specs.declared.ids.ExprId.{ExprId}
 use Rattle.check_statements.specs.Gives.{GivesListing, Progress}
 use Rattle.check_statements.specs.Outermost.{State}
 use Rattle.check_statements.specs.Initialisers.{Listing, item, items}
-use Rattle.check_statements.proofs.LeafLemmas.{AreAlike, alike_at}
+use Rattle.typed_tree.proofs.AlikeLists.{AreAlike, alike_at}
 
 abbrev step : State → Bool → ExprTree → Option «Type» → Listing → Listing
 step st c a leaf rest =

@@ -1,4 +1,3 @@
 pub mod GlobalItemLemmas
 pub mod ItemLemmas
-pub mod LeafLemmas
 pub mod StatementLemmas

@@ -1,5 +1,4 @@
 mod DistinctLemmas
-mod ItemLemmas
 mod MoveLemmas
 pub mod MovedLemmas
 mod PartLemmas

@@ -15,7 +15,7 @@ use Rattle.flow_edges.specs.declared.items.Part.{Part}
 use Rattle.flow_edges.specs.declared.items.Part.TheVariants.{Object, Fields, Again}
 use Rattle.flow_edges.specs.ItemParts.{added, finished}
 use Rattle.flow_edges.specs.Items.{elem_items, fields_items, struct_items, type_items}
-use Rattle.flow_edges.proofs.ItemLemmas.{AreAlike, alike_full}
+use Rattle.typed_tree.proofs.AlikeLists.{AreAlike, alike_full}
 
 -- ---- lists of parts
 

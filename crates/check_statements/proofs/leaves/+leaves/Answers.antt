@@ -1,6 +1,6 @@
 -- The elements of an array, of which one was found as far as its leaves are wanted.
 use Rattle.std.proofs.Common.{arith}
-use Rattle.check_statements.proofs.LeafLemmas.{repeated_alike}
+use Rattle.typed_tree.proofs.AlikeLists.{repeated_alike}
 use Rattle.check_statements.proofs.leaves.+leaves.Goals as goal
 
 pub add_elements-returns : goal.add_elements-returns

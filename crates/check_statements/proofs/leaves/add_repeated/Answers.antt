@@ -1,6 +1,6 @@
 -- Adding elements until enough leaves are there.
 use Rattle.std.proofs.Common.{arith}
-use Rattle.check_statements.proofs.LeafLemmas.{nothing_repeated, full_repeated, all_repeated}
+use Rattle.typed_tree.proofs.AlikeLists.{nothing_repeated, full_repeated, all_repeated}
 use Rattle.check_statements.proofs.leaves.add_repeated.Goals as goal
 
 pub returns-then-is_empty : goal.returns-then-is_empty

@@ -1,13 +1,13 @@
 -- Adding elements until enough items are there.
 use Rattle.std.proofs.Common.{arith}
-use Rattle.flow_edges.proofs.ItemLemmas.{nothing_repeated, full_already, all_repeated}
+use Rattle.typed_tree.proofs.AlikeLists.{nothing_repeated, full_repeated, all_repeated}
 use Rattle.flow_edges.proofs.items.add_repeated.Goals as goal
 
 pub returns-then-is_empty : goal.returns-then-is_empty
 returns-then-is_empty c = nothing_repeated c.args.wanted c.args.count c.args.slots.now.items c.args.element.now (grind arith)
 
 pub returns-then-len-wanted : goal.returns-then-len-wanted
-returns-then-len-wanted c = full_already _ _ _ _ (grind arith) c.loop-i.invariant
+returns-then-len-wanted c = full_repeated _ _ _ _ (grind arith) c.loop-i.invariant
 
 pub returns : goal.returns
 returns c = all_repeated c.args.wanted c.loop-i.slots.items c.args.element.now _ c.args.count c.loop-i._i (grind arith) c.loop-i.invariant
