@@ -139,7 +139,7 @@ fn add_field(
 }
 
 /// Adds the leaves of so many elements, as far as they are wanted.
-#[tactic(auto, using(crate::proofs::LeafLemmas::step_repeated))]
+#[tactic(auto, using(typed_tree::proofs::AlikeLists::step_repeated))]
 fn add_repeated(
     leaves: &mut Vec<Type>,
     element: &[Type],

@@ -236,7 +236,7 @@ fn since(alloc: Global, from: usize, slots: &[u64]) -> Result<Vec<u64>, AllocErr
 }
 
 // adds those of so many elements, of which one has these
-#[tactic(auto, using(crate::proofs::ItemLemmas::step_repeated))]
+#[tactic(auto, using(typed_tree::proofs::AlikeLists::step_repeated))]
 fn add_repeated(
     slots: &mut Vec<u64>,
     element: &[u64],
