@@ -1,7 +1,8 @@
 //! Runs rows of lists against the calls around the flow rules: how far a secret comes in a graph, the work on a
-//! program's functions in threads, what is explained of texts and of pairs of them, pictures and outlines.
+//! program's functions in threads, what is explained of texts and of pairs of them, pictures, outlines and audits.
 #![tactic(auto)]
 
+mod audited;
 mod explained;
 mod outlined;
 mod paths;

@@ -1,4 +1,5 @@
 // The files that rows have set, and what each row shows.
+use crate::audited::{audited, audited_at_once};
 use crate::explained::{explained, pair_explained};
 use crate::outlined::outlined;
 use crate::paths::paths;
@@ -39,6 +40,8 @@ impl Shows for Session {
             "explain_pair" => pair_explained(rt, alloc, &self.files, rest),
             "picture" => pictured(rt, alloc, rest),
             "outline" => outlined(rt, alloc, rest),
+            "audit" => audited(rt, alloc, rest),
+            "audit_threads" => audited_at_once(rt, alloc, rest),
             _ => bail!("no such row"),
         }
     }
