@@ -1,0 +1,12 @@
+mod Alike
+mod Calls
+mod Chains
+mod Expressions
+mod Locked
+mod LockedCalls
+mod LockedExpressions
+mod LockedStatements
+mod Objects
+mod Requests
+mod Statements
+mod Whole
