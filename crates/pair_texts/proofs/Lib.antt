@@ -2,3 +2,4 @@ pub mod Cuts
 mod InputLemmas
 pub mod OneOutcome
 mod Parts
+pub mod SharedLemmas

@@ -1,3 +1,4 @@
 pub mod Laws
 pub mod Seen
+pub mod Several
 pub mod Start

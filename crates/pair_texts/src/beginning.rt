@@ -134,12 +134,12 @@ fn parts<R: Threads + Sync, W: Watch>(
     ensures { IfOk result (λ r. AreParts (view_typed program.now) accepted.now (hosts_of hosts.now) beside.entry.input.now beside.entry.turns (view_boot r.0) (view_monitor r.1)) }
 {
     let (slave, monitor) = halves(rt, alloc, program, accepted, watch)?;
-    let boot = boot(alloc, slave, hosts, beside.input, beside.turns)?;
+    let boot = boot_with(alloc, slave, hosts, beside.input, beside.turns)?;
     Ok((boot, monitor))
 }
 
-// What the slave starts from.
-fn boot(
+/// What the slave starts from.
+pub(crate) fn boot_with(
     alloc: Global,
     slave: SlaveProgram,
     hosts: &Host,
