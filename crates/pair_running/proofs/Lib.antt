@@ -26,3 +26,10 @@ pub mod TalksExistTelling
 pub mod MemoryTalksHanding
 pub mod MemoryTalksHearing
 pub mod MemoryTalksTalks
+pub mod ServedPairsOneOutcome
+pub mod ServedPairsCuts
+pub mod ServedPairsSaying
+pub mod ServedPairsTurning
+pub mod ServedPairsHearing
+pub mod ServedPairsPlaces
+pub mod ServedPairsBeginning

@@ -52,7 +52,7 @@ input_is_bytes pair turns t texts =
 -- ---- what is expected
 
 -- a monitor's own hosts are those that its program has signatures of
-own_hosts_are : (p : MonitorTree) (hosts : Hosts) → HostsAre p (hosts_for p hosts) hosts
+pub own_hosts_are : (p : MonitorTree) (hosts : Hosts) → HostsAre p (hosts_for p hosts) hosts
 own_hosts_are p hosts f has host = rw has refl
 
 abbrev expected_in : (pair : Pair) (turns : ℕ) (t : Texts) → AreTextsOf pair turns t → Expected

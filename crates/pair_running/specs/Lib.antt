@@ -15,3 +15,6 @@ pub mod TalksExistLinks
 pub mod TalksExistPeers
 pub mod TalksExistPlanned
 pub mod MemoryTalksLaws
+pub mod ServedPairsBeginning
+pub mod ServedPairsServed
+pub mod ServedPairsTurns

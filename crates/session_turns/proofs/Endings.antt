@@ -32,7 +32,7 @@ is_done (run s m w) = false
 is_done (done bytes e) = true
 is_done (wrong bytes q) = false
 
-wrong_stays : {S M X R E Q : Type 0} (g : Sides S M X R E Q) (k : ℕ) (bytes : List ℕ) (q : Q) → both_from g k (wrong bytes q) ≡ wrong bytes q
+pub wrong_stays : {S M X R E Q : Type 0} (g : Sides S M X R E Q) (k : ℕ) (bytes : List ℕ) (q : Q) → both_from g k (wrong bytes q) ≡ wrong bytes q
 wrong_stays g zero bytes q = refl
 wrong_stays g (suc k) bytes q = wrong_stays g k bytes q
 

@@ -11,7 +11,7 @@ use Rattle.session_turns.proofs.Onward.{onward_steps}
 
 -- ---- steps of one pair
 
-steps_more : {S M X R E Q : Type 0} (g : Sides S M X R E Q) (j k : ℕ) (b : Both S M E Q) → both_from g (j + k) b ≡ both_from g k (both_from g j b)
+pub steps_more : {S M X R E Q : Type 0} (g : Sides S M X R E Q) (j k : ℕ) (b : Both S M E Q) → both_from g (j + k) b ≡ both_from g k (both_from g j b)
 steps_more g zero k b = ap (λ n. both_from g n b) (zero_plus k)
 steps_more g (suc j) k b = ap (λ n. both_from g n b) (sym (suc_plus j k)) ∙ steps_more g j k (both_step g b)
 
@@ -28,7 +28,7 @@ end_at x (done bytes e) = (bytes, e)
 end_at x (wrong bytes q) = x
 
 -- a pair has one end
-same_end : {S M X R E Q : Type 0} (g : Sides S M X R E Q) (j k : ℕ) (b : Both S M E Q) (x y : List ℕ × E) → both_from g j b ≡ done x.0 x.1 → both_from g k b ≡ done y.0 y.1 → x ≡ y
+pub same_end : {S M X R E Q : Type 0} (g : Sides S M X R E Q) (j k : ℕ) (b : Both S M E Q) (x y : List ℕ × E) → both_from g j b ≡ done x.0 x.1 → both_from g k b ≡ done y.0 y.1 → x ≡ y
 same_end g j k b x y h i =
     let turned : k + j ≡ j + k = omega arith in
     ap (end_at x) (sym (both_end g j k b x.0 x.1 h) ∙ ap (λ n. both_from g n b) (sym turned) ∙ both_end g k j b y.0 y.1 i)

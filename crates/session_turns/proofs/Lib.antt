@@ -1,6 +1,6 @@
 pub mod Onward
-mod Laters
+pub mod Laters
 mod Cuts
-mod Endings
+pub mod Endings
 mod TwoAddersTurn
 pub mod TurnsTheorems

@@ -3,7 +3,7 @@ use Rattle.std.proofs.Common.{◌≡◌, ◌<◌, ℕ, zero, suc, List, [], ◌�
 use Rattle.facts.proofs.Booleans.{true_not_false}
 use Rattle.facts.proofs.Lists.{cons_not_nil}
 use Rattle.facts.proofs.Numbers.{suc_below, suc_same, zero_not_suc}
-use Rattle.pair_protocol.specs.Sides.{Mode, going, waits, over, Sides}
+use Rattle.pair_protocol.specs.Sides.{AreFair, Mode, going, waits, over, Sides, asks, of_bool, waiting}
 use Rattle.pair_protocol.specs.SlaveRun.{At, came, having, with_said, moved_on, slave_at}
 use Rattle.pair_protocol.specs.Pair.{Both, run, done, answered, heard, both_in, both_from}
 use Rattle.pair_protocol.proofs.OrderFacts.{first}
@@ -32,7 +32,7 @@ goes g k s made = going_in g k s (g.mode s) (sym (ap (λ a. a.made) (made_by g k
 
 -- ---- a slave that says one word, with its last step
 
-abbrev Says : {S M X R E Q : Type 0} → Sides S M X R E Q → ℕ → S → S → X → Type 0
+abbrev pub Says : {S M X R E Q : Type 0} → Sides S M X R E Q → ℕ → S → S → X → Type 0
 Says g k s to word = (slave_at g k s [] ≡ came to (word ∷ []) [] k) × ((j : ℕ) → j < k → (slave_at g j s []).said ≡ [])
 
 -- behind a silent step the word is to come
@@ -151,3 +151,18 @@ comes_in g k all s m written bytes e over is h = later g k s m written bytes e (
 pub all_come : {S M X R E Q : Type 0} (g : Sides S M X R E Q) (k : ℕ) → AllCome g k
 all_come g zero s m written bytes e h = true_not_false (ap is_running h)
 all_come g (suc k) s m written bytes e h = comes_in g k (all_come g k) s m written bytes e (g.mode s) refl h
+
+-- ---- behind its word a slave waits exactly where that asks for a reply
+
+waits_behind : {S M X R E Q : Type 0} (g : Sides S M X R E Q) → AreFair g → (k : ℕ) → ((s to : S) (word : X) → Says g k s to word → waiting (g.mode to) ≡ of_bool (g.wants word)) →
+    (s to : S) (word : X) → g.mode s ≡ going → Says g (suc k) s to word → (o : Option X) → (g.step s).said ≡ o → waiting (g.mode to) ≡ of_bool (g.wants word)
+waits_behind g fair k more s to word mode says None is = more (g.step s).slave to word (silent g k s to word mode is says)
+waits_behind g fair zero more s to word mode (e, quiet) (Some y) is =
+    let same = sym (said_once g s (Some y) mode is) ∙ e in
+    ap (λ s. waiting (g.mode s)) (sym (ap (λ a. a.slave) same)) ∙ fair.steps s mode ∙ ap (asks g.wants) is ∙ ap (λ y. of_bool (g.wants y)) (ap (first y) (ap (λ a. a.said) same))
+waits_behind g fair (suc k) more s to word mode (e, quiet) (Some y) is =
+    absurd (cons_not_nil y [] (sym (ap (λ a. a.said) (said_once g s (Some y) mode is)) ∙ quiet 1 (omega arith)))
+
+pub says_waits : {S M X R E Q : Type 0} (g : Sides S M X R E Q) → AreFair g → (k : ℕ) (s to : S) (word : X) → Says g k s to word → waiting (g.mode to) ≡ of_bool (g.wants word)
+says_waits g fair zero s to word (e, quiet) = absurd (cons_not_nil word [] (sym (ap (λ a. a.said) e)))
+says_waits g fair (suc k) s to word says = waits_behind g fair k (says_waits g fair k) s to word (goes g k s (ap (λ a. a.made) says.0)) says (g.step s).said refl
