@@ -10,6 +10,7 @@ mod outside;
 mod peer;
 mod session;
 mod system;
+mod turns;
 mod watched;
 
 use anyhow::Result;

@@ -4,6 +4,7 @@ use crate::failures::failures;
 use crate::files::Files;
 use crate::locals::{local, orders};
 use crate::system::System;
+use crate::turns::turns;
 use crate::watched::{checked, watched};
 use anyhow::{Result, bail};
 use case_rows::{Shows, first_word};
@@ -59,6 +60,7 @@ impl<'a, R: rt::Files + Processes + AllocGlobal, I: Read + Drop + Copy, O: AsFd 
             "begun" => begun(rt, alloc, &mut self.files, rest),
             "local" => local(rt, alloc, &mut self.files, rest),
             "orders" => orders(rt, alloc, &mut self.files, rest),
+            "turns" => turns(rt, alloc, &mut self.files, rest),
             "orig" => original(rt, alloc, &mut self.files, rest),
             "check" => check(rt, alloc, &mut self.files, rest),
             "split" => split(rt, alloc, &mut self.files, rest),

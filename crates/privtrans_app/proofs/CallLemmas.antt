@@ -13,8 +13,8 @@ use Rattle.privtrans_app.specs.Interleaving.{IsOfRun}
 use Rattle.privtrans_app.specs.Once.{CallFailsOnce, FailsOnce, ReadsFail, is_of_fault}
 use Rattle.privtrans_app.specs.Outside.{Outside, NeverFall, failures}
 use Rattle.privtrans_app.specs.ProcessRun.{IsRun}
-use Rattle.privtrans_app.specs.Words.{Command, help, local, gen, split, Never, Says, uses_of}
-use Rattle.privtrans_app.proofs.CompleteLemmas.{is_complete, is_generated_run, is_headline, is_headline_of_two, is_whole}
+use Rattle.privtrans_app.specs.Words.{Command, help, local, gen, serve, split, Never, Says, uses_of}
+use Rattle.privtrans_app.proofs.CompleteLemmas.{is_complete, is_generated_run, is_headline, is_headline_of_sessions, is_headline_of_two, is_whole}
 use Rattle.privtrans_app.proofs.Decoding.{says_one}
 use Rattle.privtrans_app.proofs.SplitLemmas.{same_but}
 use Rattle.privtrans_app.proofs.Statuses.{idle_ends, run_ends}
@@ -92,6 +92,8 @@ module _ (untouched : Type 0) (moves : List Event → List ℕ → Type 0) (brea
     interleaving = λ program host policy input turns window says ran. turned (local program host policy input turns window) says (ended ran);
     generated_run = is_generated_run untouched moves breaks fair worked same words b a status keeps stay e reports comes;
     generated_turns = λ seed count says ran. turned (gen seed count) says (ended ran);
+    headline_of_sessions = is_headline_of_sessions untouched moves breaks fair worked same words b a status keeps stay e reports comes;
+    turns_of_sessions = λ program host policy turns inputs says ran. turned (serve program host policy turns inputs) says (ended ran);
     counts = counts;
     once = call_once (failures b) (failures a) e b.report.taken a.report.taken b.report.failed a.report.failed status reports once;
     report_once = report_once;

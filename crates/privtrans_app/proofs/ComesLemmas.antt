@@ -13,7 +13,7 @@ use Rattle.privtrans_app.specs.Help.{help_text, version_text}
 use Rattle.privtrans_app.specs.Outside.{Outside}
 use Rattle.privtrans_app.specs.Reading.{IsReadRefusal, IsRefusal}
 use Rattle.privtrans_app.specs.SplitRun.{Leaves}
-use Rattle.privtrans_app.specs.Words.{Command, help, version, check, explain, outline, picture, explain_pair, orig, local, run, split, slave, gen, files_of, uses_of}
+use Rattle.privtrans_app.specs.Words.{Command, help, version, check, explain, outline, picture, explain_pair, orig, local, run, split, slave, gen, serve, audit, files_of, uses_of}
 
 pub keeps_same : (o : Option (List ℕ)) → Keeps o o
 keeps_same None = tt
@@ -96,6 +96,8 @@ leaves_same (run program host policy input turns) texts files files' s none stay
 leaves_same (split program to_slave to_monitor) texts files files' s none stay = absurd (false_true_absurd (sym none))
 leaves_same slave texts files files' s none stay = stay
 leaves_same (gen seed count) texts files files' s none stay = stay
+leaves_same (serve program host policy turns inputs) texts files files' s none stay = stay
+leaves_same (audit program) texts files files' s none stay = stay
 
 -- What writing what is seen comes to, of a command that writes to out alone.
 module _ (same : Type 0) (c : Command) (b a : Outside) (texts : List (List ℕ)) (s : Seen) (own : (uses_of c).link ≡ false) (writes_none : (uses_of c).writes_files ≡ false) (uses_out : (uses_of c).out ≡ true)

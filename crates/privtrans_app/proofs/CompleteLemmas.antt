@@ -1,5 +1,5 @@
 -- Where nothing failed, a call has the status of its words and files, and tells what the files' texts give.
-use Rattle.std.proofs.Common.{◌≡◌, ◌≢◌, ◌∙◌, ◌⊎◌, ℕ, true, false, List, [], ◌∷◌, ◌++◌, Option, Some, None, refl, sym, ap, subst, inl, inr}
+use Rattle.std.proofs.Common.{◌≡◌, ◌≢◌, ◌∙◌, ◌⊎◌, ℕ, true, false, List, [], ◌∷◌, ◌++◌, Option, Some, None, refl, sym, ap, subst, inl, inr, arith}
 use Rattle.std.specs.Io.KnownBytes.{Appends, Keeps}
 use Rattle.pt_base.proofs.Booleans.{false_true_absurd}
 use Rattle.pt_base.specs.Faults.{Rose}
@@ -10,17 +10,18 @@ use Rattle.runs.specs.Run.{Expected}
 use Rattle.typed_tree.specs.TypedTree.{TypedTree}
 use Rattle.stages.specs.Climb.{Texts}
 use Rattle.pair_running.specs.LocalPairLocal.{IsExpected}
-use Rattle.privtrans_app.specs.Call.{IsComplete, IsGeneratedRun, IsHeadline, IsHeadlineOfTwo, IsWhole}
+use Rattle.privtrans_app.specs.Call.{IsComplete, IsGeneratedRun, IsHeadline, IsHeadlineOfSessions, IsHeadlineOfTwo, IsWhole}
 use Rattle.privtrans_app.specs.Comes.{Comes, ComesTo, Does, HasShown}
 use Rattle.privtrans_app.specs.Ending.{Ending, told, usage, missing, read_fault, write_fault, link_fault, bad_peer, peer_ended, memory, status_of, EndsWith, Reports, StaysDown}
-use Rattle.privtrans_app.specs.Gives.{Gives, generated_of, pair_of, shown_of}
+use Rattle.privtrans_app.specs.Gives.{Gives, generated_of, inputs_of, pair_of, shared_of, shown_of}
 use Rattle.privtrans_app.specs.Held.{AreHeld, AreKnown, IsReached}
 use Rattle.privtrans_app.specs.Outside.{Outside, AreSeen, GoesWell}
 use Rattle.privtrans_app.specs.ProcessRun.{Answer, IsRun, Serves}
+use Rattle.privtrans_app.specs.Sessions.{ServesAll, served_of}
 use Rattle.privtrans_app.specs.SplitRun.{Leaves, StopsWriting}
-use Rattle.privtrans_app.specs.Words.{Command, local, run, slave, gen, IsUsage, Never, Says, files_of, uses_of}
+use Rattle.privtrans_app.specs.Words.{Command, local, run, slave, gen, serve, IsUsage, Never, Says, files_of, uses_of}
 use Rattle.privtrans_app.proofs.Decoding.{says_one}
-use Rattle.privtrans_app.proofs.GivenLemmas.{IsMadeSeen, IsPairSeen, expected_seen, generated_seen}
+use Rattle.privtrans_app.proofs.GivenLemmas.{IsMadeSeen, IsPairSeen, expected_seen, generated_seen, sessions_seen}
 use Rattle.privtrans_app.proofs.HeldLemmas.{not_lacking, same_texts}
 use Rattle.privtrans_app.proofs.SeenLemmas.{status_is_one}
 use Rattle.privtrans_app.proofs.ProcessLemmas.{AreFaultsOf, IsTold, Reported, faults_told, pair_told}
@@ -223,6 +224,15 @@ module _ (untouched : Type 0) (moves : List Event → List ℕ → Type 0) (brea
         by : (status ≡ 12) ⊎ ((s : Seen) × IsMadeSeen seed count s × AreSeen s b a status × SameFiles b.folder.files a.folder.files) → (status ≡ 12) ⊎ AreSeen (generated_of seed count tree x) b a status
         by (inl want) = inl want
         by (inr (s, gives, tells, stays)) = inr (subst (λ (z : Seen). AreSeen z b a status) (generated_seen seed count tree x s is gives) tells)
+
+    pub is_headline_of_sessions : IsHeadlineOfSessions words b a status
+    is_headline_of_sessions program host policy turns inputs texts tree es says goes known is =
+        by (is_whole (serve program host policy turns inputs) texts says goes known (λ link. absurd (false_true_absurd link)))
+      where
+        by : (status ≡ 12) ⊎ ((s : Seen) × ServesAll (shared_of texts) (inputs_of texts) turns s × AreSeen s b a status × SameFiles b.folder.files a.folder.files) → (status ≡ 12) ⊎ AreSeen (served_of tree es) b a status
+        by (inl want) = inl want
+        by (inr (s, gives, tells, stays)) =
+            inr (subst (λ (z : Seen). AreSeen z b a status) (sessions_seen (shared_of texts) turns tree (inputs_of texts) es s (omega arith) is gives) tells)
 
     -- over an honest link
     module _ (program host policy input : List ℕ) (turns : ℕ) (texts : List (List ℕ)) (says : Says words (run program host policy input turns)) (goes : GoesWell (run program host policy input turns) b a)

@@ -11,6 +11,8 @@ use Rattle.explaining.specs.Explains.{IsHeld}
 use Rattle.explaining.proofs.Cuts as explain_cuts
 use Rattle.outlining.specs.Outlines.{IsOutline}
 use Rattle.outlining.proofs.Cuts as outline_cuts
+use Rattle.auditing.specs.Audits.{IsAudit}
+use Rattle.auditing.proofs.Cuts as audit_cuts
 use Rattle.flow_picture.specs.Pictures.{IsPictured}
 use Rattle.flow_picture.proofs.Cuts as picture_cuts
 use Rattle.pair_explaining.specs.PairExplains.{IsPairHeld}
@@ -22,11 +24,16 @@ use Rattle.original.proofs.Cuts as original_cuts
 use Rattle.pair_running.specs.LocalPairLocal.{IsPairRun}
 use Rattle.pair_running.specs.LocalPairWhole.{HasWhole}
 use Rattle.pair_running.proofs.LocalPairCuts.{cut_run, cut_whole}
+use Rattle.pair_running.specs.ServedPairsTurns.{HaveTurns}
+use Rattle.pair_running.proofs.ServedPairsCuts.{cut_turns, served_whole}
+use Rattle.pair_texts.specs.Several.{AreCutInputs, AreCutShared}
+use Rattle.pair_texts.proofs.SharedLemmas.{refused_whole}
 use Rattle.program_split.specs.Split.{IsSplit}
 use Rattle.program_split.proofs.Cuts as split_cuts
-use Rattle.privtrans_app.specs.Gives.{Gives, IsRefusedBy, Shows, accepted, by_lines, drawn, files_in, halved, one_name, original_of, pair_of, program_in, ran_alone, ran_both, text_at, three_names}
+use Rattle.privtrans_app.specs.Gives.{Gives, IsRefusedBy, Shows, accepted, audited, by_lines, drawn, files_in, halved, inputs_of, one_name, original_of, pair_of, program_in, ran_alone, ran_both, shared_of, text_at, three_names}
 use Rattle.privtrans_app.specs.Reading.{AreCutOf}
-use Rattle.privtrans_app.specs.Words.{Command, help, version, check, explain, outline, picture, explain_pair, orig, local, run, split, slave, gen}
+use Rattle.privtrans_app.specs.Sessions.{ServesAll}
+use Rattle.privtrans_app.specs.Words.{Command, help, version, check, explain, outline, picture, explain_pair, orig, local, run, split, slave, gen, serve, audit}
 
 -- ---- texts
 
@@ -63,6 +70,21 @@ shows_cut : {A : Type 0} (ss : List Stage) (tells tells' : Refusal → List ℕ 
     → Shows ss tells is show cut s → Shows ss tells' is show whole s
 shows_cut ss tells tells' is show whole cut s are f g (inl x) = inl (refused_cut ss tells tells' whole cut s are f x)
 shows_cut ss tells tells' is show whole cut s are f g (inr (x, it, shown)) = inr (x, g x it, shown)
+
+-- of several pairs
+pub shared_cut : (texts : List (List ℕ)) → AreCutShared (shared_of texts) (shared_of (firsts texts))
+shared_cut texts = record { program = text_cut texts 0; host = text_cut texts 1; policy = text_cut texts 2 }
+
+pub inputs_cut : (texts : List (List ℕ)) → AreCutInputs (inputs_of texts) (inputs_of (firsts texts))
+inputs_cut [] = refl
+inputs_cut (program ∷ []) = refl
+inputs_cut (program ∷ host_text ∷ []) = refl
+inputs_cut (program ∷ host_text ∷ policy_text ∷ []) = refl
+inputs_cut (program ∷ host_text ∷ policy_text ∷ first ∷ all) = refl
+
+serves_cut : (texts : List (List ℕ)) (turns : ℕ) (s : Seen) → ServesAll (shared_of (firsts texts)) (inputs_of (firsts texts)) turns s → ServesAll (shared_of texts) (inputs_of texts) turns s
+serves_cut texts turns s (inl (r, stops, shown)) = inl (r, refused_whole (shared_of texts) (shared_of (firsts texts)) (inputs_of texts) (inputs_of (firsts texts)) r (shared_cut texts) (inputs_cut texts) stops, shown)
+serves_cut texts turns s (inr (v, is, shown)) = inr (v, served_whole (shared_of texts) (shared_of (firsts texts)) (inputs_of texts) (inputs_of (firsts texts)) turns v (shared_cut texts) (inputs_cut texts) is, shown)
 
 gives_cut : (c : Command) (texts : List (List ℕ)) (s : Seen) → Gives c (firsts texts) s → Gives c texts s
 gives_cut help texts s gives = gives
@@ -110,6 +132,11 @@ gives_cut (split program to_slave to_monitor) texts s gives =
     shows_cut (flows ∷ []) by_lines by_lines IsSplit halved whole cut s (program_cut texts) (λ r report stops told. told) (λ x it. split_cuts.cut_whole whole cut (came x) (program_cut texts) it) gives
 gives_cut slave texts s gives = absurd gives
 gives_cut (gen seed count) texts s gives = gives
+gives_cut (serve program host_name policy_name turns all) texts s gives = serves_cut texts turns s gives
+gives_cut (audit program) texts s gives =
+    let whole : Texts = program_in texts in
+    let cut : Texts = program_in (firsts texts) in
+    shows_cut (flows ∷ []) by_lines by_lines IsAudit audited whole cut s (program_cut texts) (λ r report stops told. told) (λ x it. audit_cuts.cut_whole whole cut (came x) (program_cut texts) it) gives
 
 pub gives_whole : (c : Command) (whole cut : List (List ℕ)) (s : Seen) → AreCutOf whole cut → Gives c cut s → Gives c whole s
 gives_whole c whole cut s (inl same) gives = subst (λ (t : List (List ℕ)). Gives c t s) same gives
@@ -121,6 +148,14 @@ pub run_whole : (whole cut : List (List ℕ)) (turns window : ℕ) (before after
 run_whole whole cut turns window before after bytes (inl same) has = subst (λ (t : List (List ℕ)). HasWhole (pair_of t) turns window before after bytes) same has
 run_whole whole cut turns window before after bytes (inr same) has =
     cut_run (pair_of whole) (pair_of (firsts whole)) turns window before after bytes (pair_cut whole) (subst (λ (t : List (List ℕ)). HasWhole (pair_of t) turns window before after bytes) same has)
+
+-- whole turns of the first bytes are some of the texts
+pub turns_whole : (whole cut : List (List ℕ)) (turns : ℕ) (before after : Option (ℕ → Who)) (bytes : List (List ℕ)) → AreCutOf whole cut
+    → HaveTurns (shared_of cut) (inputs_of cut) turns before after bytes → HaveTurns (shared_of whole) (inputs_of whole) turns before after bytes
+turns_whole whole cut turns before after bytes (inl same) has = subst (λ (t : List (List ℕ)). HaveTurns (shared_of t) (inputs_of t) turns before after bytes) same has
+turns_whole whole cut turns before after bytes (inr same) has =
+    cut_turns (shared_of whole) (shared_of (firsts whole)) (inputs_of whole) (inputs_of (firsts whole)) turns before after bytes (shared_cut whole) (inputs_cut whole)
+    (subst (λ (t : List (List ℕ)). HaveTurns (shared_of t) (inputs_of t) turns before after bytes) same has)
 
 -- a program of the first bytes that has halves
 pub halves_whole : (whole cut : List (List ℕ)) (slave_text monitor_text : List ℕ) → AreCutOf whole cut → IsSplit (program_in cut) (record { slave = slave_text; monitor = monitor_text })

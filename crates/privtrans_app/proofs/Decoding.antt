@@ -4,9 +4,9 @@ use Rattle.std.specs.Prelude.{codes, bytes_eq}
 use Rattle.std.specs.Fmt.{decimal}
 use Rattle.std.specs.Str.Parse.{digits_value}
 use Rattle.std.proofs.lemmas.Fmt.{decimal_is_IsNumeral}
-use Rattle.privtrans_app.specs.Forms.{AreNotGenerated, AreNotLocal, AreNotOne, AreNotOrig, AreNotRun, AreNotSplit, ExplainNothing, IsNoWord}
+use Rattle.privtrans_app.specs.Forms.{AreNotGenerated, AreNotLocal, AreNotOne, AreNotOrig, AreNotRun, AreNotServe, AreNotSplit, ExplainNothing, IsNoWord}
 use Rattle.privtrans_app.specs.Told.{SaysOne}
-use Rattle.privtrans_app.specs.Words.{Command, help, version, check, explain, outline, picture, explain_pair, orig, local, run, split, slave, gen, IsUsage, Says}
+use Rattle.privtrans_app.specs.Words.{Command, help, version, check, explain, outline, picture, explain_pair, orig, local, run, split, slave, gen, serve, audit, IsUsage, Says}
 
 -- ---- numbers
 
@@ -36,7 +36,9 @@ decoded w ws =
     if bytes_eq w (codes "local") then local (get_or ws 0 []) (get_or ws 1 []) (get_or ws 2 []) (get_or ws 3 []) (number_in (get_or ws 4 [])) (number_in (get_or ws 5 [])) else
     if bytes_eq w (codes "run") then run (get_or ws 0 []) (get_or ws 1 []) (get_or ws 2 []) (get_or ws 3 []) (number_in (get_or ws 4 [])) else
     if bytes_eq w (codes "split") then split (get_or ws 0 []) (get_or ws 1 []) (get_or ws 2 []) else
-    if bytes_eq w (codes "slave") then slave else gen (number_in (get_or ws 0 [])) (number_in (get_or ws 1 []))
+    if bytes_eq w (codes "slave") then slave else
+    if bytes_eq w (codes "audit") then audit (get_or ws 0 []) else
+    if bytes_eq w (codes "serve") then serve (get_or ws 0 []) (get_or ws 1 []) (get_or ws 2 []) (number_in (get_or ws 3 [])) (drop 4 ws) else gen (number_in (get_or ws 0 [])) (number_in (get_or ws 1 []))
 
 abbrev decode : List (List ℕ) → Command
 decode [] = help
@@ -66,6 +68,8 @@ says_decodes words (gen seed count) is =
     let small : count ≤ 2000 = is.count_most in
     let same : gen (number_in (decimal seed)) (number_in (decimal count)) ≡ gen seed count = λ k. gen (same_number seed (omega arith) k) (same_number count (omega arith) k) in
     ap decode is.are ∙ same
+says_decodes words (serve program host policy turns inputs) is = ap decode is.are ∙ ap (λ n. serve program host policy n inputs) (same_number turns is.turns_most)
+says_decodes words (audit program) is = ap decode is
 
 pub says_one : SaysOne
 says_one words c d a b = sym (says_decodes words c a) ∙ says_decodes words d b
@@ -94,6 +98,8 @@ no_words c says = asks c says
     asks (split program to_slave to_monitor) is = let e = is.are in cc
     asks slave is = cc
     asks (gen seed count) is = let e = is.are in cc
+    asks (serve program host policy turns inputs) is = let e = is.are in cc
+    asks (audit program) is = cc
 
 pub no_check : (ws : List (List ℕ)) → AreNotOne ws → IsUsage (codes "check" ∷ ws)
 no_check ws none c says = none (get_or ws 0 []) (ap (drop 1) (again (codes "check" ∷ ws) c says))
@@ -125,6 +131,12 @@ no_split ws none c says = none (get_or ws 0 []) (get_or ws 1 []) (get_or ws 2 []
 pub no_gen : (ws : List (List ℕ)) → AreNotGenerated (codes "gen" ∷ ws) → IsUsage (codes "gen" ∷ ws)
 no_gen ws none c says = none (number_in (get_or ws 0 [])) (number_in (get_or ws 1 [])) (again (codes "gen" ∷ ws) c says)
 
+pub no_serve : (ws : List (List ℕ)) → AreNotServe (codes "serve" ∷ ws) → IsUsage (codes "serve" ∷ ws)
+no_serve ws none c says = none (get_or ws 0 []) (get_or ws 1 []) (get_or ws 2 []) (number_in (get_or ws 3 [])) (drop 4 ws) (again (codes "serve" ∷ ws) c says)
+
+pub no_audit : (ws : List (List ℕ)) → AreNotOne ws → IsUsage (codes "audit" ∷ ws)
+no_audit ws none c says = none (get_or ws 0 []) (ap (drop 1) (again (codes "audit" ∷ ws) c says))
+
 -- ---- one word
 
 head_is : (xs ys : List (List ℕ)) → xs ≡ ys → get_or xs 0 [] ≡ get_or ys 0 []
@@ -152,6 +164,8 @@ no_word w none c says = asks c says
     asks (split program to_slave to_monitor) is = short _ _ _ _ is.are
     asks slave is = none.no_slave (head_is _ _ is)
     asks (gen seed count) is = short _ _ _ _ is.are
+    asks (serve program host policy turns inputs) is = short _ _ _ _ is.are
+    asks (audit program) is = short _ _ _ _ is
 
 -- ---- another word, and some behind it
 
@@ -165,6 +179,8 @@ pub record IsOther (w : List ℕ) : Type 0 where
   pub no_picture : w ≢ codes "picture"
   pub no_split : w ≢ codes "split"
   pub no_gen : w ≢ codes "gen"
+  pub no_serve : w ≢ codes "serve"
+  pub no_audit : w ≢ codes "audit"
 
 -- one word is no more
 alone : (w a : List ℕ) (ws : List (List ℕ)) → ws ≢ [] → w ∷ ws ≡ a ∷ [] → ⊥
@@ -188,3 +204,5 @@ no_command w ws some none c says = asks c says
     asks (split program to_slave to_monitor) is = none.no_split (head_is _ _ is.are)
     asks slave is = alone w _ ws some is
     asks (gen seed count) is = none.no_gen (head_is _ _ is.are)
+    asks (serve program host policy turns inputs) is = none.no_serve (head_is _ _ is.are)
+    asks (audit program) is = none.no_audit (head_is _ _ is)

@@ -11,6 +11,8 @@ use Rattle.stages.proofs.OneRefusal.{one_refusal}
 use Rattle.refusal_lines.specs.Lines.{lines_of}
 use Rattle.flow_check.specs.Checked.{IsChecked}
 use Rattle.flow_check.proofs.OneOutcome as checks
+use Rattle.auditing.specs.Audits.{IsAudit}
+use Rattle.auditing.proofs.OneAudit.{audit_is_one}
 use Rattle.original.specs.Original as original
 use Rattle.original.specs.Original.{IsOriginal}
 use Rattle.original.proofs.OneOutcome as originals
@@ -18,11 +20,15 @@ use Rattle.pair_running.specs.LocalPairLocal.{IsPairRun}
 use Rattle.pair_running.specs.GeneratedPairGenerated as made
 use Rattle.pair_running.proofs.GeneratedPairRuns.{told_once}
 use Rattle.pair_running.proofs.LocalPairOneOutcome as runs
+use Rattle.pair_running.proofs.ServedPairsOneOutcome as sessions
+use Rattle.pair_texts.specs.Several.{SharedTexts}
+use Rattle.pair_texts.proofs.SharedLemmas.{one_refused}
 use Rattle.program_split.specs.Split.{IsSplit}
 use Rattle.program_split.proofs.OneOutcome as splits
-use Rattle.privtrans_app.specs.Gives.{IsRefusedBy, Shows, accepted, by_lines, halved, original_of, pair_of, program_in, ran_alone, ran_both}
+use Rattle.privtrans_app.specs.Gives.{IsRefusedBy, Shows, accepted, audited, by_lines, halved, inputs_of, original_of, pair_of, program_in, ran_alone, ran_both, shared_of}
+use Rattle.privtrans_app.specs.Sessions.{ServesAll, served_seen}
 use Rattle.privtrans_app.specs.Told.{DifferInWays, SeenIsOne}
-use Rattle.privtrans_app.specs.Words.{help, version, check, explain, outline, picture, explain_pair, orig, local, run, split, slave, gen}
+use Rattle.privtrans_app.specs.Words.{help, version, check, explain, outline, picture, explain_pair, orig, local, run, split, slave, gen, serve, audit}
 
 -- ---- refusals that differ in ways alone
 
@@ -89,6 +95,13 @@ alike_itself (came x) = refl
 orig_alike : (t : Texts) (turns : ℕ) (o p : Climb original.Ran) → ComesTo (hosts ∷ inputs ∷ []) (IsOriginal turns) t o → ComesTo (hosts ∷ inputs ∷ []) (IsOriginal turns) t p → AreAlike o p
 orig_alike t turns o p x y = subst (λ (q : Climb original.Ran). AreAlike o q) (originals.outcome_is_one t turns o p x y) (alike_itself o)
 
+serves_one : (t : SharedTexts) (all : List (List ℕ)) (turns : ℕ) (a b : Seen) → ServesAll t all turns a → ServesAll t all turns b → (a ≡ b) ⊎ DifferInWays a b
+serves_one t all turns a b (inl (r, stops, shown)) (inl (r', stops', shown')) =
+    seen_as (told r) (told r') a b shown shown' (compared r r' (one_refused t all r r' stops stops') (ways r) (ways r'))
+serves_one t all turns a b (inl (r, stops, shown)) (inr (w, it, seen)) = absurd (sessions.outcome_is_one t all turns (refused r) (came w) stops it)
+serves_one t all turns a b (inr (v, it, seen)) (inl (r, stops, shown)) = absurd (sessions.outcome_is_one t all turns (came v) (refused r) it stops)
+serves_one t all turns a b (inr (v, it, seen)) (inr (w, it', seen')) = inl (seen ∙ ap served_seen (sessions.served_is_one t all turns v w it it') ∙ sym seen')
+
 pub seen_is_one : SeenIsOne
 seen_is_one help texts a b lines x y = inl (x ∙ sym y)
 seen_is_one version texts a b lines x y = inl (x ∙ sym y)
@@ -107,3 +120,5 @@ seen_is_one (split program to_slave to_monitor) texts a b lines x y =
 seen_is_one slave texts a b lines x y = absurd x
 seen_is_one (gen seed count) texts a b lines x y =
     shows_one of_pair (made.IsGenerated seed count) ran_both (made.texts_of seed count) (told_once seed count) a b x y
+seen_is_one (serve program host_name policy_name turns all) texts a b lines x y = serves_one (shared_of texts) (inputs_of texts) turns a b x y
+seen_is_one (audit program) texts a b lines x y = shows_one (flows ∷ []) IsAudit audited (program_in texts) (audit_is_one (program_in texts)) a b x y

@@ -1,5 +1,5 @@
 -- Something is seen of all texts, but for programs of too many slots.
-use Rattle.std.proofs.Common.{◌⊎◌, ◌<◌, ℕ, List, [], ◌∷◌, refl, sym, subst, inl, inr, arith}
+use Rattle.std.proofs.Common.{◌⊎◌, ◌<◌, ℕ, suc, List, [], ◌∷◌, drop, refl, sym, ap, subst, inl, inr, arith}
 use Rattle.std.specs.List.{flat_map}
 use Rattle.std.specs.List.Sorted.{IsStrictlySortedBy}
 use Rattle.pt_base.proofs.Booleans.{false_true_absurd}
@@ -27,6 +27,9 @@ use Rattle.flow_picture.specs.Pictures.{IsPictured}
 use Rattle.flow_picture.proofs.ExistingPictures.{picture_exists}
 use Rattle.outlining.specs.Outlines.{IsOutline}
 use Rattle.outlining.proofs.ExistingOutlines.{accepted_outlined}
+use Rattle.auditing.specs.Audits.{IsAudit}
+use Rattle.auditing.proofs.ExistingAudits.{accepted_audited}
+use Rattle.auditing.proofs.OneAudit.{audit_has_passed}
 use Rattle.pair_explaining.specs.HostBlocks.{host_block}
 use Rattle.pair_explaining.specs.PairExplains.{IsPairHeld}
 use Rattle.pair_explaining.specs.PairNames.{Names}
@@ -39,16 +42,20 @@ use Rattle.pair_running.specs.HonestTalksLaws.{expected_of}
 use Rattle.pair_running.specs.LocalPairLocal as pairs
 use Rattle.pair_running.specs.LocalPairLocal.{IsPairRun, ran_of}
 use Rattle.pair_running.specs.GeneratedPairGenerated as made
+use Rattle.pair_running.specs.ServedPairsServed.{AreRan, Served, Session, ran_by}
+use Rattle.pair_texts.specs.Several.{IsOneRefused, SharedTexts, with_input}
+use Rattle.pair_texts.specs.Start.{names_of}
 use Rattle.program_split.specs.Split.{IsSplit}
 use Rattle.program_split.proofs.OneOutcome.{split_has_passed}
 use Rattle.texts_have_outcomes_law.specs.Laws.{HasTooManySlots}
 use Rattle.texts_have_outcomes_law.proofs.Climbs.{climbs_end}
 use Rattle.texts_have_outcomes_law.proofs.Commands.{check_shows, runs_come, split_gives}
 use Rattle.texts_have_outcomes_law.proofs.NoOutcomes.{is_read, no_sides, not_passed, not_refused}
-use Rattle.privtrans_app.specs.Gives.{Shows, accepted, by_lines, drawn, files_in, halved, one_name, original_of, pair_of, program_in, ran_alone, ran_both, three_names, unreported}
+use Rattle.privtrans_app.specs.Gives.{Shows, accepted, audited, by_lines, drawn, files_in, halved, one_name, original_of, pair_of, program_in, ran_alone, ran_both, shared_of, text_at, three_names, unreported}
 use Rattle.privtrans_app.specs.Help.{help_text, version_text}
+use Rattle.privtrans_app.specs.Sessions.{ServesAll, served_seen}
 use Rattle.privtrans_app.specs.Told.{CommandsAreSeen, TooManySlotsAreUnseen}
-use Rattle.privtrans_app.specs.Words.{help, version, check, explain, outline, picture, explain_pair, orig, local, run, split, slave, gen}
+use Rattle.privtrans_app.specs.Words.{help, version, check, explain, outline, picture, explain_pair, orig, local, run, split, slave, gen, serve, audit}
 use Rattle.privtrans_app.proofs.SeenLemmas.{held_passed, outline_passed}
 use Rattle.privtrans_app.proofs.ToldOrders.{homes_ascend, turns_exist}
 
@@ -185,6 +192,51 @@ all_drawn t (inl x) = inl (refused_drawn t x.0 x.1)
 all_drawn t (inr (inl x)) = inl (no_faults t x.0 x.1)
 all_drawn t (inr (inr many)) = inr many
 
+-- ---- several pairs
+
+-- the sessions of passed texts
+session_runs : (t : SharedTexts) (turns : ℕ) (tree other : TypedTree) (bytes : List ℕ) → HasTypedTree t.program tree → HasPassed of_pair (with_input t bytes) other
+    → (x : Session) × IsPairRun turns (with_input t bytes) (ran_by (names_of tree) x)
+session_runs t turns tree other bytes has passed =
+    let run = pair_runs turns (with_input t bytes) other passed in
+    let is = run.1 in
+    (record { bytes = run.0.bytes; end = run.0.end }, (is.0, is.1, is.2, is.3, ap names_of (tree_is_one t.program tree is.0 has is.2.read.program), is.5))
+
+abbrev AllEnd : SharedTexts → ℕ → TypedTree → List (List ℕ) → Type 0
+AllEnd t turns tree all = ((r : Refusal) × IsOneRefused t all r) ⊎ (((xs : List Session) × AreRan t turns (names_of tree) all xs) ⊎ HasTooManySlots t.program)
+
+one_more : (t : SharedTexts) (turns : ℕ) (tree : TypedTree) (bytes : List ℕ) (all : List (List ℕ)) → HasTypedTree t.program tree
+    → ((r : Refusal) × IsRefused of_pair (with_input t bytes) r) ⊎ (((other : TypedTree) × HasPassed of_pair (with_input t bytes) other) ⊎ HasTooManySlots t.program)
+    → AllEnd t turns tree all → AllEnd t turns tree (bytes ∷ all)
+one_more t turns tree bytes all has (inl (r, stops)) rest = inl (r, (0, bytes, refl, stops))
+one_more t turns tree bytes all has (inr (inl (other, passed))) (inl (r, (place, there, at, stops))) = inl (r, (suc place, there, at, stops))
+one_more t turns tree bytes all has (inr (inl (other, passed))) (inr (inl (xs, ran))) =
+    let x = session_runs t turns tree other bytes has passed in
+    inr (inl (x.0 ∷ xs, (x.1, ran)))
+one_more t turns tree bytes all has (inr (inl (other, passed))) (inr (inr many)) = inr (inr many)
+one_more t turns tree bytes all has (inr (inr many)) rest = inr (inr many)
+
+all_end : (t : SharedTexts) (turns : ℕ) (tree : TypedTree) (all : List (List ℕ)) → HasTypedTree t.program tree → AllEnd t turns tree all
+all_end t turns tree [] has = inr (inl ([], tt))
+all_end t turns tree (bytes ∷ all) has = one_more t turns tree bytes all has (climbs_end of_pair (with_input t bytes)) (all_end t turns tree all has)
+
+abbrev IsServeSeen : SharedTexts → List (List ℕ) → ℕ → Type 0
+IsServeSeen t all turns = (s : Seen) × ServesAll t all turns s
+
+end_seen : (t : SharedTexts) (turns : ℕ) (tree : TypedTree) (bytes : List ℕ) (all : List (List ℕ)) → AllEnd t turns tree (bytes ∷ all) → IsServeSeen t (bytes ∷ all) turns ⊎ HasTooManySlots t.program
+end_seen t turns tree bytes all (inl (r, stops)) = inl (faulty (lines_of r), inl (r, stops, refl))
+end_seen t turns tree bytes all (inr (inl (xs, ran))) =
+    let v : Served = record { sessions = xs; names = names_of tree } in
+    inl (served_seen v, inr (v, record { some = omega arith; ran = ran }, refl))
+end_seen t turns tree bytes all (inr (inr many)) = inr many
+
+first_seen : (t : SharedTexts) (turns : ℕ) (bytes : List ℕ) (all : List (List ℕ))
+    → ((r : Refusal) × IsRefused of_pair (with_input t bytes) r) ⊎ (((tree : TypedTree) × HasPassed of_pair (with_input t bytes) tree) ⊎ HasTooManySlots t.program)
+    → IsServeSeen t (bytes ∷ all) turns ⊎ HasTooManySlots t.program
+first_seen t turns bytes all (inl (r, stops)) = inl (faulty (lines_of r), inl (r, (0, bytes, refl, stops), refl))
+first_seen t turns bytes all (inr (inl (tree, passed))) = end_seen t turns tree bytes all (all_end t turns tree (bytes ∷ all) passed.0)
+first_seen t turns bytes all (inr (inr many)) = inr many
+
 -- ---- all commands
 
 pub commands_seen : CommandsAreSeen
@@ -213,6 +265,10 @@ commands_seen (split program to_slave to_monitor) texts alone =
 commands_seen slave texts alone = absurd (false_true_absurd (sym alone))
 commands_seen (gen seed count) texts alone =
     shown_behind of_pair by_lines (made.IsGenerated seed count) ran_both (made.texts_of seed count) (λ r stops. lines_tell r) (generated_runs seed count)
+commands_seen (serve program host_name policy_name turns all) texts alone =
+    first_seen (shared_of texts) turns (text_at texts 3) (drop 4 texts) (climbs_end of_pair (with_input (shared_of texts) (text_at texts 3)))
+commands_seen (audit program) texts alone =
+    shown_behind (flows ∷ []) by_lines IsAudit audited (program_in texts) (λ r stops. lines_tell r) (accepted_audited (program_in texts))
 
 -- ---- programs of too many slots
 
@@ -241,3 +297,5 @@ many_unseen (run program host_name policy_name input_name turns) texts s first m
 many_unseen (split program to_slave to_monitor) texts s first many x = unseen by_lines IsSplit halved (program_in texts) (split_has_passed (program_in texts)) many s x
 many_unseen slave texts s first many x = many
 many_unseen (gen seed count) texts s first many x = false_true_absurd first
+many_unseen (serve program host_name policy_name turns all) texts s first many x = false_true_absurd first
+many_unseen (audit program) texts s first many x = unseen by_lines IsAudit audited (program_in texts) (audit_has_passed (program_in texts)) many s x

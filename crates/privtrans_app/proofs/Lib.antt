@@ -12,6 +12,7 @@ mod ProcessLemmas
 mod ReadingLemmas
 mod SeenLemmas
 mod ShowingLemmas
+mod SessionLemmas
 mod SlaveLemmas
 mod SplitLemmas
 mod Statuses

@@ -4,7 +4,7 @@ use Rattle.pt_base.proofs.Booleans.{false_true_absurd}
 use Rattle.privtrans_app.specs.Words.{Command, Uses, slave, both_halves, out_alone, uses_of}
 use Rattle.privtrans_app.specs.WordsSeen.{plain_seen}
 use Rattle.privtrans_app.specs.declared.words.Plain.{Plain}
-use Rattle.privtrans_app.specs.declared.words.Plain.TheVariants.{Check, Explain, Outline, Picture, ExplainPair, Orig, Local, Gen}
+use Rattle.privtrans_app.specs.declared.words.Plain.TheVariants.{Check, Explain, Outline, Picture, ExplainPair, Orig, Local, Gen, Serve, Audit}
 
 plain_uses : (p : Plain) → (uses_of (plain_seen p) ≡ out_alone) ⊎ (uses_of (plain_seen p) ≡ both_halves)
 plain_uses (Check program) = inl refl
@@ -15,6 +15,8 @@ plain_uses (ExplainPair words) = inl refl
 plain_uses (Orig words) = inl refl
 plain_uses (Local words) = inr refl
 plain_uses (Gen words) = inr refl
+plain_uses (Serve words) = inr refl
+plain_uses (Audit program) = inl refl
 
 -- what both of them use and don't use
 either : (f : Uses → Bool) (b : Bool) (u : Uses) → f out_alone ≡ b → f both_halves ≡ b → (u ≡ out_alone) ⊎ (u ≡ both_halves) → f u ≡ b

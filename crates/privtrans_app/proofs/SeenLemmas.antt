@@ -14,6 +14,8 @@ use Rattle.flow_check.specs.Checked.{IsChecked}
 use Rattle.flow_check.proofs.OneOutcome.{checked_passed}
 use Rattle.explaining.specs.Explains.{IsHeld}
 use Rattle.outlining.specs.Outlines.{IsOutline}
+use Rattle.auditing.specs.Audits.{IsAudit}
+use Rattle.auditing.proofs.OneAudit.{audit_has_passed}
 use Rattle.flow_picture.specs.Pictures.{AreJudged, IsPictured, Picture}
 use Rattle.pair_explaining.specs.PairExplains.{IsPairHeld}
 use Rattle.pair_explaining.specs.RefusalBlocks.{AreBlocks}
@@ -24,11 +26,14 @@ use Rattle.pair_running.specs.LocalPairLocal.{IsPairRun}
 use Rattle.pair_running.specs.GeneratedPairGenerated as made
 use Rattle.pair_running.proofs.GeneratedPairRuns.{told_once}
 use Rattle.pair_running.proofs.LocalPairOneOutcome.{run_has_passed, run_is_one}
+use Rattle.pair_running.proofs.ServedPairsOneOutcome as sessions
+use Rattle.pair_texts.specs.Several.{SharedTexts}
 use Rattle.program_split.specs.Split.{IsSplit}
 use Rattle.program_split.proofs.OneOutcome.{split_has_passed}
-use Rattle.privtrans_app.specs.Gives.{IsRefusedBy, Shows, accepted, by_lines, drawn, drawn_with, files_in, halved, one_name, original_of, pair_of, program_in, ran_alone, ran_both, three_names}
+use Rattle.privtrans_app.specs.Gives.{IsRefusedBy, Shows, accepted, audited, by_lines, drawn, drawn_with, files_in, halved, inputs_of, one_name, original_of, pair_of, program_in, ran_alone, ran_both, shared_of, three_names}
+use Rattle.privtrans_app.specs.Sessions.{ServesAll}
 use Rattle.privtrans_app.specs.Told.{SeenIsNoWant, StatusIsOne}
-use Rattle.privtrans_app.specs.Words.{help, version, check, explain, outline, picture, explain_pair, orig, local, run, split, slave, gen}
+use Rattle.privtrans_app.specs.Words.{help, version, check, explain, outline, picture, explain_pair, orig, local, run, split, slave, gen, serve, audit}
 
 abbrev status : Seen → ℕ
 status s = s.status
@@ -80,6 +85,12 @@ abbrev climb_status : {A : Type 0} → (A → Seen) → Climb A → ℕ
 climb_status show (refused r) = 5
 climb_status show (came x) = (show x).status
 
+serves_status : (t : SharedTexts) (all : List (List ℕ)) (turns : ℕ) (a b : Seen) → ServesAll t all turns a → ServesAll t all turns b → a.status ≡ b.status
+serves_status t all turns a b (inl x) (inl y) = ap status x.2 ∙ sym (ap status y.2)
+serves_status t all turns a b (inl x) (inr y) = absurd (sessions.outcome_is_one t all turns (refused x.0) (came y.0) x.1 y.1)
+serves_status t all turns a b (inr x) (inl y) = absurd (sessions.outcome_is_one t all turns (came x.0) (refused y.0) x.1 y.1)
+serves_status t all turns a b (inr x) (inr y) = ap status x.2 ∙ sym (ap status y.2)
+
 pub status_is_one : StatusIsOne
 status_is_one help texts a b x y = ap status x ∙ sym (ap status y)
 status_is_one version texts a b x y = ap status x ∙ sym (ap status y)
@@ -107,6 +118,9 @@ status_is_one slave texts a b x y = absurd x
 status_is_one (gen seed count) texts a b x y =
     shows_status of_pair by_lines (made.IsGenerated seed count) ran_both (made.texts_of seed count) (generated_passed seed count (made.texts_of seed count))
     (λ p q i j. ap (λ (r : pairs.Ran). (ran_both r).status) (told_once seed count (came p) (came q) i j)) a b x y
+status_is_one (serve program host policy turns all) texts a b x y = serves_status (shared_of texts) (inputs_of texts) turns a b x y
+status_is_one (audit program) texts a b x y =
+    shows_status (flows ∷ []) by_lines IsAudit audited (program_in texts) (audit_has_passed (program_in texts)) (λ p q i j. refl) a b x y
 
 -- ---- never want of memory
 
@@ -152,3 +166,6 @@ no_want (split program to_slave to_monitor) texts s x = shows_no_want (flows ∷
 no_want slave texts s x = absurd x
 no_want (gen seed count) texts s x =
     shows_no_want of_pair by_lines (made.IsGenerated seed count) ran_both (made.texts_of seed count) (λ p. end_no_want p.end) s x
+no_want (serve program host policy turns all) texts s (inl x) = faulty_no_want s (ap status x.2)
+no_want (serve program host policy turns all) texts s (inr x) = clean_no_want s (ap status x.2)
+no_want (audit program) texts s x = shows_no_want (flows ∷ []) by_lines IsAudit audited (program_in texts) (λ p. zero_no_want 0 refl) s x

@@ -62,10 +62,10 @@ busy (ends.Trapped trap span) idle = done 6 6 refl refl idle
 busy ends.Spent idle = done 8 8 refl refl idle
 busy (ends.Refused call f state) idle = done 7 7 refl refl idle
 
-abbrev status_so : (s : Shown) (x : Seen) → shown_seen s ≡ x → report_status s.report ≡ x.status
+abbrev pub status_so : (s : Shown) (x : Seen) → shown_seen s ≡ x → report_status s.report ≡ x.status
 status_so s x is = ap (λ (y : Seen). y.status) is
 
-abbrev out_so : (s : Shown) (x : Seen) → shown_seen s ≡ x → s.out.items ≡ x.out
+abbrev pub out_so : (s : Shown) (x : Seen) → shown_seen s ≡ x → s.out.items ≡ x.out
 out_so s x is = ap (λ (y : Seen). y.out) is
 
 -- what both halves came to

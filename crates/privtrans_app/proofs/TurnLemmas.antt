@@ -1,5 +1,5 @@
 -- How a chooser was asked.
-use Rattle.std.proofs.Common.{◌≡◌, ℕ, false, List, [], Option, Result, Ok, refl, sym, ap, subst, inl, inr}
+use Rattle.std.proofs.Common.{◌≡◌, ℕ, false, List, [], map, Option, Result, Ok, refl, sym, ap, subst, inl, inr}
 use Rattle.std.specs.declared.alloc.AllocError.{AllocError}
 use Rattle.std.specs.Io.KnownBytes.{Appends}
 use Rattle.pt_base.proofs.Booleans.{false_true_absurd}
@@ -13,9 +13,9 @@ use Rattle.privtrans_app.specs.Interleaving.{IsOfNoRun, IsOfRun}
 use Rattle.privtrans_app.specs.Outside.{Outside}
 use Rattle.privtrans_app.specs.Reading.{IsReadRefusal, IsRefusal}
 use Rattle.privtrans_app.specs.Showing.{HasAsked}
-use Rattle.privtrans_app.specs.Words.{Command, help, version, check, explain, outline, picture, explain_pair, orig, local, run, split, slave, gen, files_of, uses_of}
+use Rattle.privtrans_app.specs.Words.{Command, help, version, check, explain, outline, picture, explain_pair, orig, local, run, split, slave, gen, serve, audit, files_of, uses_of}
 use Rattle.privtrans_app.specs.declared.showing.Shown.{Shown}
-use Rattle.privtrans_app.proofs.Cuts.{run_whole}
+use Rattle.privtrans_app.proofs.Cuts.{run_whole, turns_whole}
 use Rattle.privtrans_app.proofs.HeldLemmas.{Whole}
 use Rattle.privtrans_app.proofs.Statuses.{done, other}
 
@@ -36,6 +36,8 @@ asked_same same (run program host policy input turns) texts before after r none 
 asked_same same (split program to_slave to_monitor) texts before after r none asked = asked
 asked_same same slave texts before after r none asked = asked
 asked_same same (gen seed count) texts before after r none asked = absurd (false_true_absurd (sym none))
+asked_same same (serve program host policy turns inputs) texts before after r none asked = absurd (false_true_absurd (sym none))
+asked_same same (audit program) texts before after r none asked = asked
 
 -- where nothing ran, no answer was taken
 pub asked_idle : (same : Type 0) (c : Command) (texts : List (List ℕ)) (before after : Option (ℕ → Who)) (s : Shown) → (same → AreTaken [] before after) → HasAsked same c texts before after (Ok s)
@@ -53,6 +55,8 @@ asked_idle same (run program host policy input turns) texts before after s none 
 asked_idle same (split program to_slave to_monitor) texts before after s none asked idle = none asked
 asked_idle same slave texts before after s none asked idle = none asked
 asked_idle same (gen seed count) texts before after s none asked idle = asked.idle idle
+asked_idle same (serve program host policy turns inputs) texts before after s none asked idle = asked.idle idle
+asked_idle same (audit program) texts before after s none asked idle = none asked
 
 -- the same of what writing it came to
 pub puts_idle : (same : Type 0) (c : Command) (texts : List (List ℕ)) (before after : Option (ℕ → Who)) (s : Shown) (o o' : Option (List ℕ)) (writes writes' : ℕ) (came : Ending)
@@ -79,6 +83,8 @@ no_turns (run program host policy input turns) b a status none = tt
 no_turns (split program to_slave to_monitor) b a status none = tt
 no_turns slave b a status none = tt
 no_turns (gen seed count) b a status none = λ ran. absurd (none ran)
+no_turns (serve program host policy turns inputs) b a status none = λ ran. absurd (none ran)
+no_turns (audit program) b a status none = tt
 
 -- a file that isn't read ends no run
 unread_ran : (name : List ℕ) (files : Option Files) (reads reads' : ℕ) (e : Ending) → IsReadRefusal name files reads reads' e → IsOfRun (status_of e) → ⊥
@@ -131,3 +137,14 @@ module _ (same : Type 0) (b a : Outside) (cut : List (List ℕ)) (s : Shown) (ca
       let wrote = put_ran puts ran in
       let tells = asked.ran wrote.0 in
       record { bytes = tells.0; end = tells.1; whole = tells.2; writes = subst (Appends b.out.taken a.out.taken) tells.3 wrote.1 }
+  shown_turns (serve program host policy turns inputs) w asked puts = λ ran.
+      let wrote = put_ran puts ran in
+      let tells = asked.ran wrote.0 in
+      record {
+        texts = w.texts;
+        held = w.held;
+        sessions = tells.0;
+        whole = turns_whole w.texts cut turns b.answers a.answers (map (λ x. x.bytes) tells.0) w.cuts tells.1;
+        writes = subst (Appends b.out.taken a.out.taken) tells.2 wrote.1;
+      }
+  shown_turns (audit program) w asked puts = tt

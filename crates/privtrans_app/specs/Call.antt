@@ -8,16 +8,18 @@ use Rattle.pair_meaning.specs.LinkChoosing.{AreTaken}
 use Rattle.stages.specs.Climb.{Texts}
 use Rattle.pair_running.specs.LocalPairLocal.{IsExpected}
 use Rattle.pair_running.specs.GeneratedPairGenerated as made
+use Rattle.pair_running.specs.ServedPairsServed.{AreExpected}
 use Rattle.privtrans_app.specs.Comes.{Comes, Does}
 use Rattle.privtrans_app.specs.Ending.{Ending, status_of, EndsWith, Reports, StaysDown}
-use Rattle.privtrans_app.specs.Gives.{Gives, generated_of, pair_of, shown_of}
+use Rattle.privtrans_app.specs.Gives.{Gives, generated_of, inputs_of, pair_of, shared_of, shown_of}
 use Rattle.privtrans_app.specs.Held.{AreKnown, IsReached}
-use Rattle.privtrans_app.specs.Interleaving.{IsGeneratedInterleaved, IsInterleaved, IsOfNoRun, IsOfRun}
+use Rattle.privtrans_app.specs.Interleaving.{AreInterleaved, IsGeneratedInterleaved, IsInterleaved, IsOfNoRun, IsOfRun}
 use Rattle.privtrans_app.specs.Once.{CallFailsOnce, FailsOnce, ReadsFail}
 use Rattle.privtrans_app.specs.Outside.{Outside, AreSeen, GoesWell, NeverFall, failures}
 use Rattle.privtrans_app.specs.ProcessRun.{Answer}
+use Rattle.privtrans_app.specs.Sessions.{served_of}
 use Rattle.privtrans_app.specs.SplitRun.{Leaves, SameBut}
-use Rattle.privtrans_app.specs.Words.{Command, help, version, check, explain, outline, picture, explain_pair, orig, local, run, split, slave, gen, IsUsage, NameNone, Never, Says, files_of, uses_of}
+use Rattle.privtrans_app.specs.Words.{Command, help, version, check, explain, outline, picture, explain_pair, orig, local, run, split, slave, gen, serve, audit, IsUsage, NameNone, Never, Says, files_of, uses_of}
 
 -- The call comes to an ending, only where the words, the files, the outside and what the link gave have its cause, and reports it. Of the
 -- calls of folder, out and link one at most failed, and none where the ending tells of no fault of the outside; and a read failed only
@@ -76,7 +78,21 @@ IsGeneratedRun words b a status = (seed count : ℕ) (tree : TypedTree) (e : Exp
 abbrev pub IsGeneratedInLine : List (List ℕ) → Outside → Outside → ℕ → Type 0
 IsGeneratedInLine words b a status = (seed count : ℕ) → Says words (gen seed count) → IsOfRun status → IsGeneratedInterleaved seed count b a
 
--- both at once, by the command
+-- The headline of sessions. Where nothing failed: of files that hold a program that breaks no rule of flows, with a host table, a policy and
+-- some inputs, each session writes what is expected of the program with its input, and the report says that it ended as is expected; or
+-- memory was wanting.
+abbrev pub IsHeadlineOfSessions : List (List ℕ) → Outside → Outside → ℕ → Type 0
+IsHeadlineOfSessions words b a status = (program host policy : List ℕ) (turns : ℕ) (inputs texts : List (List ℕ)) (tree : TypedTree) (es : List Expected)
+    → Says words (serve program host policy turns inputs) → GoesWell (serve program host policy turns inputs) b a
+    → AreKnown b.folder.files (files_of (serve program host policy turns inputs)) texts → AreExpected (shared_of texts) turns tree (inputs_of texts) es
+    → (status ≡ 12) ⊎ AreSeen (served_of tree es) b a status
+
+-- whatever failed: where sessions came to their ends, they went on turn by turn as the answers say that were taken from the chooser
+abbrev pub AreInTurns : List (List ℕ) → Outside → Outside → ℕ → Type 0
+AreInTurns words b a status = (program host policy : List ℕ) (turns : ℕ) (inputs : List (List ℕ)) → Says words (serve program host policy turns inputs) → IsOfRun status
+    → AreInterleaved (serve program host policy turns inputs) turns b a
+
+-- all at once, by the command
 abbrev pub HasTurned : Command → Outside → Outside → ℕ → Type 0
 HasTurned help b a status = ⊤
 HasTurned version b a status = ⊤
@@ -91,6 +107,8 @@ HasTurned (run program host policy input turns) b a status = ⊤
 HasTurned (split program to_slave to_monitor) b a status = ⊤
 HasTurned slave b a status = ⊤
 HasTurned (gen seed count) b a status = IsOfRun status → IsGeneratedInterleaved seed count b a
+HasTurned (serve program host policy turns inputs) b a status = IsOfRun status → AreInterleaved (serve program host policy turns inputs) turns b a
+HasTurned (audit program) b a status = ⊤
 
 -- All of it. `served` says what texts come to that run in two processes, `worked` what a slave's work does, and `fair` for which texts the
 -- spawner is honest; `same` says that out is as it was.
@@ -103,6 +121,8 @@ pub record IsCall (served : Texts → ℕ → Answer → Type 0) (worked : Endin
   pub interleaving : IsInLine words b a status
   pub generated_run : IsGeneratedRun words b a status
   pub generated_turns : IsGeneratedInLine words b a status
+  pub headline_of_sessions : IsHeadlineOfSessions words b a status
+  pub turns_of_sessions : AreInTurns words b a status
   pub counts : NeverFall b a
   -- of all reads and writes of the folder, writes to out and calls of the link together one at most fails, and of the writes of the
   -- report one; none does where the status tells of no fault of the outside, nor that memory was wanting

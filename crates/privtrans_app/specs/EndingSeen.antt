@@ -11,7 +11,7 @@ use Rattle.privtrans_app.specs.Ending.{Ending as Seen, told, usage, missing, rea
 use Rattle.privtrans_app.specs.declared.ending.Ending.{Ending}
 use Rattle.privtrans_app.specs.declared.ending.Ending.TheVariants.{Told, Usage, Missing, ReadFault, WriteFault, LinkFault, BadPeer, PeerEnded, Memory}
 use Rattle.privtrans_app.specs.declared.ending.Report.{Report}
-use Rattle.privtrans_app.specs.declared.ending.Report.TheVariants.{Nothing, Accepted, Split, Faults, Ended}
+use Rattle.privtrans_app.specs.declared.ending.Report.TheVariants.{Nothing, Accepted, Split, Faults, Ended, Served, Audited}
 use Rattle.privtrans_app.specs.declared.showing.Shown.{Shown}
 
 -- the lines of a report
@@ -21,6 +21,8 @@ report_bytes Accepted = codes "accepted\n"
 report_bytes Split = codes "split\n"
 report_bytes (Faults lines) = lines.items
 report_bytes (Ended end names) = end_line names end
+report_bytes (Served lines) = lines.items
+report_bytes Audited = codes "audited\n"
 
 -- the status that goes with it
 abbrev pub report_status : Report → ℕ
@@ -29,6 +31,8 @@ report_status Accepted = 0
 report_status Split = 0
 report_status (Faults lines) = 5
 report_status (Ended end names) = end_status end
+report_status (Served lines) = 0
+report_status Audited = 0
 
 abbrev pub ending_seen : Ending → Seen
 ending_seen (Told report) = told (report_bytes report) (report_status report)

@@ -1,6 +1,6 @@
 -- Words that don't ask for a command as its own words would.
 use Rattle.std.specs.Prelude.{◌≡◌, ◌≢◌, ℕ, List, [], ◌∷◌, codes}
-use Rattle.privtrans_app.specs.Words.{IsGenerated, IsLocal, IsOrig, IsProcessRun, IsSplit}
+use Rattle.privtrans_app.specs.Words.{IsGenerated, IsLocal, IsOrig, IsProcessRun, IsServe, IsSplit}
 
 -- a word that asks for nothing by itself
 pub record IsNoWord (word : List ℕ) : Type 0 where
@@ -32,3 +32,6 @@ AreNotSplit words = (program slave monitor : List ℕ) → IsSplit words program
 
 abbrev pub AreNotGenerated : List (List ℕ) → Type 0
 AreNotGenerated words = (seed count : ℕ) → IsGenerated words seed count → ⊥
+
+abbrev pub AreNotServe : List (List ℕ) → Type 0
+AreNotServe words = (program host policy : List ℕ) (turns : ℕ) (inputs : List (List ℕ)) → IsServe words program host policy turns inputs → ⊥

@@ -1,5 +1,5 @@
 -- What is seen of a command by what its files hold: out's bytes, the report and the status, whole.
-use Rattle.std.specs.Prelude.{◌≡◌, ◌⊎◌, ℕ, List, [], ◌∷◌, codes, slice_get, unwrap_or}
+use Rattle.std.specs.Prelude.{◌≡◌, ◌⊎◌, ℕ, List, [], ◌∷◌, codes, drop, slice_get, unwrap_or}
 use Rattle.runs.specs.Run.{Expected}
 use Rattle.typed_tree.specs.TypedTree.{TypedTree}
 use Rattle.front_end.specs.FaultLinesSeen.{Seen, faulty}
@@ -11,19 +11,22 @@ use Rattle.refusal_lines.specs.Lines.{lines_of}
 use Rattle.flow_check.specs.Checked.{IsChecked}
 use Rattle.explaining.specs.Explains.{IsHeld}
 use Rattle.outlining.specs.Outlines.{IsOutline}
+use Rattle.auditing.specs.Audits.{IsAudit}
 use Rattle.flow_picture.specs.Pictures.{IsPictured, Picture}
 use Rattle.pair_explaining.specs.PairExplains.{IsPairHeld}
 use Rattle.pair_explaining.specs.PairNames.{Names}
 use Rattle.pair_explaining.specs.RefusalBlocks.{AreBlocks}
 use Rattle.original.specs.Original as original
 use Rattle.original.specs.Original.{IsOriginal, original_texts}
+use Rattle.pair_texts.specs.Several.{SharedTexts}
 use Rattle.pair_texts.specs.Start.{names_of}
 use Rattle.pair_running.specs.LocalPairLocal as pairs
 use Rattle.pair_running.specs.LocalPairLocal.{IsPairRun}
 use Rattle.pair_running.specs.GeneratedPairGenerated as made
 use Rattle.program_split.specs.Split.{HalfTexts, IsSplit}
 use Rattle.privtrans_app.specs.Help.{help_text, version_text}
-use Rattle.privtrans_app.specs.Words.{Command, help, version, check, explain, outline, picture, explain_pair, orig, local, run, split, slave, gen}
+use Rattle.privtrans_app.specs.Sessions.{ServesAll}
+use Rattle.privtrans_app.specs.Words.{Command, help, version, check, explain, outline, picture, explain_pair, orig, local, run, split, slave, gen, serve, audit}
 
 -- ---- the texts of a command
 
@@ -43,6 +46,13 @@ pair_of texts = record { program = text_at texts 0; host = text_at texts 1; poli
 abbrev pub files_in : List (List ℕ) → Texts
 files_in texts = record { program = text_at texts 0; host = text_at texts 1; policy = text_at texts 2; input = []; way = as_written }
 
+-- the texts that several pairs share, and the inputs behind them, of which there is one at least
+abbrev pub shared_of : List (List ℕ) → SharedTexts
+shared_of texts = record { program = text_at texts 0; host = text_at texts 1; policy = text_at texts 2 }
+
+abbrev pub inputs_of : List (List ℕ) → List (List ℕ)
+inputs_of texts = text_at texts 3 ∷ drop 4 texts
+
 -- a program's text, its host table and its input
 abbrev pub original_of : List (List ℕ) → Texts
 original_of texts = original_texts (text_at texts 0) (text_at texts 1) (text_at texts 2)
@@ -56,6 +66,10 @@ unreported bytes = record { out = bytes; report = []; status = 0 }
 -- no stage has a fault, and these bytes tell of the program
 abbrev pub accepted : List ℕ → Seen
 accepted bytes = record { out = bytes; report = codes "accepted\n"; status = 0 }
+
+-- no stage has a fault, and these lines tell of the results that are given openly
+abbrev pub audited : List ℕ → Seen
+audited lines = record { out = lines; report = codes "audited\n"; status = 0 }
 
 -- the picture of a program, with the lines of the faults that it shows
 abbrev pub drawn_with : List ℕ → List FlowFault → Seen
@@ -124,3 +138,5 @@ Gives (run program host policy input turns) texts s = IsRefusedBy of_pair by_lin
 Gives (split program to_slave to_monitor) texts s = Shows (flows ∷ []) by_lines IsSplit halved (program_in texts) s
 Gives slave texts s = ⊥
 Gives (gen seed count) texts s = Shows of_pair by_lines (made.IsGenerated seed count) ran_both (made.texts_of seed count) s
+Gives (serve program host policy turns all) texts s = ServesAll (shared_of texts) (inputs_of texts) turns s
+Gives (audit program) texts s = Shows (flows ∷ []) by_lines IsAudit audited (program_in texts) s

@@ -1,5 +1,5 @@
 -- How a chooser is asked for what a command shows.
-use Rattle.std.specs.Prelude.{◌≡◌, ℕ, List, [], Option, Result, Ok, Err, IfOk, ⊤}
+use Rattle.std.specs.Prelude.{◌≡◌, ℕ, List, [], Option, Result, Ok, Err, IfOk, map, ⊤}
 use Rattle.std.specs.declared.alloc.AllocError.{AllocError}
 use Rattle.front_end.specs.FaultLinesSeen.{Seen, faulty}
 use Rattle.pt_base.specs.declared.chooser.Who.{Who}
@@ -17,10 +17,15 @@ use Rattle.pair_running.specs.declared.local_pair.ran.Ran.{Ran}
 use Rattle.pair_meaning.specs.LinkChoosing.{AreTaken}
 use Rattle.pair_running.specs.LocalPairWhole.{HasWhole}
 use Rattle.pair_running.specs.GeneratedPairGenerated as made
+use Rattle.pair_running.specs.ServedPairsServed.{Session}
+use Rattle.pair_running.specs.ServedPairsTurns.{HaveTurns, view_served}
+use Rattle.pair_running.specs.declared.served_pairs.served.Served.{Served}
+use Rattle.pair_texts.specs.Several.{SharedTexts}
 use Rattle.privtrans_app.specs.EndingSeen.{report_status}
-use Rattle.privtrans_app.specs.Gives.{pair_of}
+use Rattle.privtrans_app.specs.Gives.{inputs_of, pair_of, shared_of}
 use Rattle.privtrans_app.specs.Interleaving.{IsOfNoRun, IsOfRun}
-use Rattle.privtrans_app.specs.Words.{Command, help, version, check, explain, outline, picture, explain_pair, orig, local, run, split, slave, gen}
+use Rattle.privtrans_app.specs.Sessions.{served_seen, texts_from}
+use Rattle.privtrans_app.specs.Words.{Command, help, version, check, explain, outline, picture, explain_pair, orig, local, run, split, slave, gen, serve, audit}
 use Rattle.privtrans_app.specs.declared.showing.Shown.{Shown}
 
 -- this is seen of what stages stop so: the lines of the refusal
@@ -54,6 +59,15 @@ abbrev pub TellsTurns : ℕ → ℕ → Option (ℕ → Who) → Option (ℕ →
 TellsTurns seed count before after bytes =
     (written : List ℕ) × (end : End) × HasWhole (made.texts_of seed count) made.turns made.window before after written × (bytes ≡ made.told seed count written end)
 
+-- these bytes are what is told of sessions that came to their ends by whole turns
+abbrev pub TellsSessions : SharedTexts → List (List ℕ) → ℕ → Option (ℕ → Who) → Option (ℕ → Who) → List ℕ → Type 0
+TellsSessions t inputs turns before after bytes = (xs : List Session) × HaveTurns t inputs turns before after (map (λ x. x.bytes) xs) × (bytes ≡ texts_from 0 xs)
+
+-- this is seen of what several pairs came to
+abbrev pub IsServeShown : Result Served Stop → Seen → Type 0
+IsServeShown (Ok v) s = s ≡ served_seen (view_served v)
+IsServeShown (Err stop) s = IsStopShown stop s
+
 -- The chooser was asked for what a command shows of these texts: by the runs of both halves alone. `same` says that it is as it was.
 abbrev pub HasAsked : Type 0 → Command → List (List ℕ) → Option (ℕ → Who) → Option (ℕ → Who) → Result Shown AllocError → Type 0
 HasAsked same help texts before after r = same
@@ -70,3 +84,6 @@ HasAsked same (run program host policy input turns) texts before after r = same
 HasAsked same (split program to_slave to_monitor) texts before after r = same
 HasAsked same slave texts before after r = same
 HasAsked same (gen seed count) texts before after r = IfOk r (λ s. Turned (TellsTurns seed count before after s.out.items) before after (report_status s.report))
+HasAsked same (serve program host policy turns inputs) texts before after r =
+    IfOk r (λ s. Turned (TellsSessions (shared_of texts) (inputs_of texts) turns before after s.out.items) before after (report_status s.report))
+HasAsked same (audit program) texts before after r = same

@@ -8,7 +8,7 @@ use Rattle.program_split.specs.Split.{IsSplit}
 use Rattle.privtrans_app.specs.Ending.{Ending, told, usage, missing, read_fault, write_fault, link_fault, bad_peer, peer_ended, memory}
 use Rattle.privtrans_app.specs.Gives.{text_at}
 use Rattle.privtrans_app.specs.Held.{AreHeld}
-use Rattle.privtrans_app.specs.Words.{Command, help, version, check, explain, outline, picture, explain_pair, orig, local, run, split, slave, gen, files_of}
+use Rattle.privtrans_app.specs.Words.{Command, help, version, check, explain, outline, picture, explain_pair, orig, local, run, split, slave, gen, serve, audit, files_of}
 use Rattle.privtrans_app.specs.declared.words.SplitWords.{SplitWords}
 
 -- told files but these two stay as they are
@@ -50,6 +50,8 @@ Leaves (run program host policy input turns) texts files files' s = SameFiles fi
 Leaves (split program to_slave to_monitor) texts files files' s = LeavesHalves (text_at texts 0) to_slave to_monitor files files' s
 Leaves slave texts files files' s = SameFiles files files'
 Leaves (gen seed count) texts files files' s = SameFiles files files'
+Leaves (serve program host policy turns inputs) texts files files' s = SameFiles files files'
+Leaves (audit program) texts files files' s = SameFiles files files'
 
 -- Writing the halves broke off: at the slave's file, and nothing else was touched, or at the monitor's, and the slave's is written.
 pub record StopsWriting (c : Command) (files files' : Option Files) : Type 0 where

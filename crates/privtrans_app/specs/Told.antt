@@ -11,7 +11,7 @@ use Rattle.privtrans_app.specs.Gives.{Gives, text_at}
 use Rattle.privtrans_app.specs.Held.{AreKnown}
 use Rattle.privtrans_app.specs.Outside.{Outside, AreSeen, GoesWell}
 use Rattle.privtrans_app.specs.SplitRun.{Leaves}
-use Rattle.privtrans_app.specs.Words.{Command, help, version, check, explain, outline, picture, explain_pair, orig, local, run, split, slave, gen, Says, files_of, uses_of}
+use Rattle.privtrans_app.specs.Words.{Command, help, version, check, explain, outline, picture, explain_pair, orig, local, run, split, slave, gen, serve, audit, Says, files_of, uses_of}
 
 -- words ask for one command at most
 abbrev pub SaysOne : Type 0
@@ -40,6 +40,8 @@ tells_by_lines (run program host policy input turns) = true
 tells_by_lines (split program to_slave to_monitor) = true
 tells_by_lines slave = true
 tells_by_lines (gen seed count) = true
+tells_by_lines (serve program host policy turns inputs) = true
+tells_by_lines (audit program) = true
 
 -- faults of flows that differ in the ways that they show, and in nothing else
 abbrev pub DifferInWays : Seen → Seen → Type 0
@@ -64,6 +66,8 @@ HasTooMany (run program host policy input turns) texts = HasTooManySlots (text_a
 HasTooMany (split program to_slave to_monitor) texts = HasTooManySlots (text_at texts 0)
 HasTooMany slave texts = ⊥
 HasTooMany (gen seed count) texts = HasTooManySlots (texts_of seed count).program
+HasTooMany (serve program host policy turns inputs) texts = HasTooManySlots (text_at texts 0)
+HasTooMany (audit program) texts = HasTooManySlots (text_at texts 0)
 
 -- of a command that talks with no other process something is seen, but where there are too many
 abbrev pub CommandsAreSeen : Type 0
@@ -84,6 +88,8 @@ lays_out_first (run program host policy input turns) = false
 lays_out_first (split program to_slave to_monitor) = true
 lays_out_first slave = false
 lays_out_first (gen seed count) = false
+lays_out_first (serve program host policy turns inputs) = false
+lays_out_first (audit program) = true
 
 -- then nothing is seen of them
 abbrev pub TooManySlotsAreUnseen : Type 0

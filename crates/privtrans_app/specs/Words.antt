@@ -1,5 +1,5 @@
 -- What the words may be, and what they ask for.
-use Rattle.std.specs.Prelude.{◌≡◌, ◌≢◌, ◌⊎◌, ◌≤◌, ℕ, Bool, true, false, List, [], ◌∷◌, codes}
+use Rattle.std.specs.Prelude.{◌≡◌, ◌≢◌, ◌⊎◌, ◌≤◌, ℕ, Bool, true, false, List, [], ◌∷◌, codes, length}
 use Rattle.std.specs.Fmt.{decimal}
 
 -- ---- the words of a command
@@ -48,6 +48,13 @@ pub record IsGenerated (words : List (List ℕ)) (seed count : ℕ) : Type 0 whe
   pub count_least : 1 ≤ count
   pub count_most : count ≤ 2000
 
+-- `serve`, the names of three files, a number in its range, in digits without a leading zero, and the names of 1 to 16 inputs
+pub record IsServe (words : List (List ℕ)) (program host policy : List ℕ) (turns : ℕ) (inputs : List (List ℕ)) : Type 0 where
+  pub are : words ≡ codes "serve" ∷ program ∷ host ∷ policy ∷ decimal turns ∷ inputs
+  pub turns_most : turns ≤ 4294967295
+  pub inputs_least : 1 ≤ length inputs
+  pub inputs_most : length inputs ≤ 16
+
 -- ---- commands
 
 -- What words ask for, with the names of files and the numbers that they have.
@@ -65,6 +72,8 @@ pub data Command : Type 0 where
   split : List ℕ → List ℕ → List ℕ → Command
   slave : Command
   gen : ℕ → ℕ → Command
+  serve : List ℕ → List ℕ → List ℕ → ℕ → List (List ℕ) → Command
+  audit : List ℕ → Command
 
 -- the words ask for it
 abbrev pub Says : List (List ℕ) → Command → Type 0
@@ -81,6 +90,8 @@ Says words (run program host policy input turns) = IsProcessRun words program ho
 Says words (split program to_slave to_monitor) = IsSplit words program to_slave to_monitor
 Says words slave = IsSlave words
 Says words (gen seed count) = IsGenerated words seed count
+Says words (serve program host policy turns inputs) = IsServe words program host policy turns inputs
+Says words (audit program) = words ≡ codes "audit" ∷ program ∷ []
 
 -- some words ask for it
 abbrev pub IsAsked : Command → Type 0
@@ -105,6 +116,8 @@ files_of (run program host policy input turns) = program ∷ host ∷ policy ∷
 files_of (split program to_slave to_monitor) = program ∷ []
 files_of slave = []
 files_of (gen seed count) = []
+files_of (serve program host policy turns inputs) = program ∷ host ∷ policy ∷ inputs
+files_of (audit program) = program ∷ []
 
 -- What a command uses beside the files that it reads and the report.
 pub record Uses : Type 0 where
@@ -142,6 +155,8 @@ uses_of (run program host policy input turns) = two_processes
 uses_of (split program to_slave to_monitor) = two_files
 uses_of slave = a_peer
 uses_of (gen seed count) = both_halves
+uses_of (serve program host policy turns inputs) = both_halves
+uses_of (audit program) = out_alone
 
 -- what the words ask for doesn't use this
 abbrev pub Never : (Uses → Bool) → List (List ℕ) → Type 0

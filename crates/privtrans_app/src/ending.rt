@@ -23,6 +23,10 @@ pub(crate) enum Report {
     Faults(Vec<u8>),
     /// A run came to its end, of a program whose functions have these names, by their numbers.
     Ended(End, Listed<Bytes>),
+    /// Several sessions came to their ends: the lines that report them.
+    Served(Vec<u8>),
+    /// It is told of each result that is given openly whether it may depend on secrets.
+    Audited,
 }
 
 /// What a call comes to.
@@ -57,6 +61,8 @@ pub(crate) fn told_status(report: &Report) -> u8
         Report::Split => 0,
         Report::Faults(_) => 5,
         Report::Ended(end, _) => end_status(end),
+        Report::Served(_) => 0,
+        Report::Audited => 0,
     }
 }
 
@@ -110,6 +116,8 @@ fn lines(alloc: Global, report: Report) -> Result<Vec<u8>, AllocError>
         Report::Split => Vec::from_slice(alloc, b"split\n"),
         Report::Faults(lines) => Ok(lines),
         Report::Ended(end, names) => end_line(alloc, names.as_slice(), &end),
+        Report::Served(lines) => Ok(lines),
+        Report::Audited => Vec::from_slice(alloc, b"audited\n"),
     }
 }
 

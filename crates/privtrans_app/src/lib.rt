@@ -5,6 +5,7 @@ mod ending;
 mod help;
 mod reading;
 mod run;
+mod several;
 mod showing;
 mod slave;
 mod split;

@@ -1,5 +1,6 @@
 // What a command shows of its texts, whatever the outside is.
 ghost use Rattle.std.specs.Prelude.{◌≡◌, ◌≤◌, ◌&&◌, [], ◌∷◌, IfOk, length, nat_eq};
+ghost use Rattle.auditing.specs.Audits.{IsAudit};
 ghost use Rattle.explaining.specs.Explains.{IsHeld};
 ghost use Rattle.flow_check.specs.Checked.{IsChecked};
 ghost use Rattle.flow_picture.specs.Pictures.{IsPictured};
@@ -17,19 +18,22 @@ ghost use Rattle.pair_texts.specs.Seen.{texts_with};
 ghost use Rattle.refusal_lines.specs.Ends as ends;
 ghost use Rattle.stages.specs.Climb as climb;
 ghost use Rattle.privtrans_app.specs.EndingSeen.{report_status, shown_seen};
-ghost use Rattle.privtrans_app.specs.Gives.{Gives, Shows, accepted, by_lines, drawn, files_in, one_name, original_of, pair_of, program_in, ran_alone, ran_both, text_at};
-ghost use Rattle.privtrans_app.specs.Showing.{HasAsked, IsPairShown, IsStopExplained, IsStopShown, MayBeExplained, TellsTurns, Turned};
+ghost use Rattle.privtrans_app.specs.Gives.{Gives, Shows, accepted, audited, by_lines, drawn, files_in, inputs_of, one_name, original_of, pair_of, program_in, ran_alone, ran_both, shared_of, text_at};
+ghost use Rattle.privtrans_app.specs.Showing.{HasAsked, IsPairShown, IsServeShown, IsStopExplained, IsStopShown, MayBeExplained, TellsSessions, TellsTurns, Turned};
+ghost use Rattle.privtrans_app.specs.Sessions.{ServesAll};
 ghost use Rattle.privtrans_app.specs.Words as w;
-ghost use Rattle.privtrans_app.specs.Words.{IsAsked};
+ghost use Rattle.privtrans_app.specs.Words.{IsAsked, files_of};
 ghost use Rattle.privtrans_app.specs.WordsSeen.{plain_seen};
 
 use crate::ending::{Report, told_status};
 use crate::reading::text_at;
-use crate::words::{ExplainWords, GeneratedWords, LocalWords, OrigWords, Plain};
+use crate::several::{session_lines, session_texts};
+use crate::words::{ExplainWords, GeneratedWords, LocalWords, OrigWords, Plain, ServeWords};
 use flow_picture::Pictured;
 use pair_explaining::{FileNames, explain_refusal, refusals_are_told};
 use pair_running::local_pair::Ran;
-use pair_running::{generated_pair, local_pair};
+use pair_running::served_pairs::Served;
+use pair_running::{generated_pair, local_pair, served_pairs};
 use pair_texts::Beside;
 use pt_base::{Bytes, Chooser, End, Listed, Watch};
 use refusal_lines::{flow_lines, refusal_lines};
@@ -167,6 +171,31 @@ fn outline<R: Threads + Sync, W: Watch>(
 {
     match outlining::outline(rt, alloc, text_at(texts, 0), watch) {
         Ok(outline) => Ok(clean(outline)),
+        Err(stop) => refused(alloc, stop),
+    }
+}
+
+// It is told by these lines which results that are given openly may depend on secrets.
+fn verdicts(lines: Vec<u8>) -> Shown
+    ensures { shown_seen result ≡ audited lines.items }
+{
+    Shown {
+        out: lines,
+        report: Report::Audited,
+    }
+}
+
+// The results that are given openly, and whether they may depend on secrets.
+fn audit<R: Threads + Sync, W: Watch>(
+    rt: &R,
+    alloc: Global,
+    texts: &[Bytes],
+    watch: &W,
+) -> Result<Shown, AllocError>
+    ensures { IfOk result (λ s. Shows (climb.flows ∷ []) by_lines IsAudit audited (program_in texts.now) (shown_seen s)) }
+{
+    match auditing::audit(rt, alloc, text_at(texts, 0), watch) {
+        Ok(lines) => Ok(verdicts(lines)),
         Err(stop) => refused(alloc, stop),
     }
 }
@@ -312,6 +341,44 @@ fn generated<R: Threads + Sync, C: Chooser, W: Watch>(
     pair_shown(alloc, answer)
 }
 
+// What several pairs came to.
+fn sessions_shown(alloc: Global, answer: Result<Served, Stop>) -> Result<Shown, AllocError>
+    ensures { IfOk result (λ s. IsServeShown answer (shown_seen s)) }
+{
+    match answer {
+        Ok(Served { sessions, names }) => Ok(Shown {
+            out: session_texts(alloc, sessions.as_slice())?,
+            report: Report::Served(session_lines(alloc, names.as_slice(), sessions.as_slice())?),
+        }),
+        Err(stop) => refused(alloc, stop),
+    }
+}
+
+// The runs of both halves with several inputs, by turns over one monitor. The chooser says at each turn which session
+// goes on.
+fn served<R: Threads + Sync, C: Chooser, W: Watch>(
+    rt: &R,
+    alloc: Global,
+    words: &ServeWords<'_>,
+    texts: &[Bytes],
+    chooser: &mut C,
+    watch: &W,
+) -> Result<Shown, AllocError>
+    requires some { 4 ≤ length texts.now }
+    requires few { length texts.now ≤ 19 }
+    ensures gives { IfOk result (λ s. ServesAll (shared_of texts.now) (inputs_of texts.now) words.now.turns (shown_seen s)) }
+    ensures turns { IfOk result (λ s. Turned (TellsSessions (shared_of texts.now) (inputs_of texts.now) words.now.turns (C.answers chooser.old) (C.answers chooser.new) s.out.items)
+        (C.answers chooser.old) (C.answers chooser.new) (report_status s.report)) }
+{
+    let given = GivenTexts {
+        program: text_at(texts, 0),
+        host: text_at(texts, 1),
+        policy: text_at(texts, 2),
+    };
+    let answer = served_pairs::run(rt, alloc, given, &texts[3..], words.turns, chooser, watch);
+    sessions_shown(alloc, answer)
+}
+
 /// What a command shows whose files have these texts. The chooser is asked where both halves of a program run, and the watch
 /// is told of each function that the front end works on.
 ///
@@ -326,7 +393,8 @@ pub(crate) fn show<R: Threads + Sync, C: Chooser, W: Watch>(
     chooser: &mut C,
     watch: &W,
 ) -> Result<Shown, AllocError>
-    requires { IsAsked (plain_seen plain.now) }
+    requires asked { IsAsked (plain_seen plain.now) }
+    requires read { length texts.now ≡ length (files_of (plain_seen plain.now)) }
     ensures gives { IfOk result (λ s. Gives (plain_seen plain.now) texts.now (shown_seen s)) }
     ensures turns { HasAsked (chooser.new ≡ chooser.old) (plain_seen plain.now) texts.now (C.answers chooser.old) (C.answers chooser.new) result }
 {
@@ -339,5 +407,7 @@ pub(crate) fn show<R: Threads + Sync, C: Chooser, W: Watch>(
         Plain::Orig(words) => orig(rt, alloc, words, texts, watch),
         Plain::Local(words) => local(rt, alloc, words, texts, chooser, watch),
         Plain::Gen(words) => generated(rt, alloc, words, chooser, watch),
+        Plain::Serve(words) => served(rt, alloc, words, texts, chooser, watch),
+        Plain::Audit { program: _ } => audit(rt, alloc, texts, watch),
     }
 }

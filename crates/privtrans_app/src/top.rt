@@ -117,7 +117,7 @@ fn done<'a, R: Threads + Sync, F: Folder, K: Sink, S: Witnessed, C: Chooser, W: 
 fn ended<'a, R: Threads + Sync, F: Folder, K: Sink, S: Witnessed, C: Chooser, W: Watch>(
     rt: &R,
     alloc: Global,
-    words: &[&'a str],
+    words: &'a [&'a str],
     folder: &mut F,
     out: &mut K,
     spawner: &mut S,
@@ -175,7 +175,8 @@ fn tell<E: Sink>(alloc: Global, sink: &mut E, ending: Ending<'_>) -> u8
 /// other process failed, 10 where that broke a rule, 11 where it ended too early, 12 for want of memory.
 /// Lines in `report`, mostly one, say how it ended; help, the version and a slave that has ended have none.
 /// A picture is drawn of texts with faults of flows, too.
-/// Where both halves run in one process, the chooser says at each step which of them goes on; where they
+/// Where both halves run in one process, the chooser says at each step which of them goes on, and where
+/// several pairs do, at each turn which session goes on; where they
 /// run in two, the spawner starts the slave's, and is the link to the other one in each. The watch is told of
 /// each function that the front end works on, and changes nothing.
 pub fn privtrans<

@@ -1,12 +1,15 @@
 // The words of a call, read by hand.
 ghost use Rattle.std.specs.Prelude.{◌≡◌, ◌≤◌, ◌≢◌, ◌∷◌, [], ℕ, IfOk, MatchOption, IsTrue, false, map, codes};
 ghost use Rattle.std.specs.Fmt.{decimal};
-ghost use Rattle.privtrans_app.specs.Forms.{AreNotGenerated, AreNotLocal, AreNotOne, AreNotOrig, AreNotRun, AreNotSplit, ExplainNothing, IsNoWord};
+ghost use Rattle.privtrans_app.specs.Forms.{AreNotGenerated, AreNotLocal, AreNotOne, AreNotOrig, AreNotRun, AreNotServe, AreNotSplit, ExplainNothing, IsNoWord};
 ghost use Rattle.privtrans_app.specs.Words.{IsUsage, Says, files_of};
 ghost use Rattle.privtrans_app.specs.WordsSeen.{command_seen, plain_seen};
 
 use itoa::Buffer;
 use std::alloc::{AllocError, Global};
+
+/// So many inputs are served at most.
+const MOST_INPUTS: usize = 16;
 
 /// The names of a pair's files.
 #[derive(Clone, Copy)]
@@ -64,6 +67,17 @@ pub(crate) struct GeneratedWords {
     pub count: u32,
 }
 
+/// The words of several pairs that run by turns over one monitor.
+#[derive(Clone, Copy)]
+pub(crate) struct ServeWords<'a> {
+    pub program: &'a str,
+    pub host: &'a str,
+    pub policy: &'a str,
+    pub turns: u32,
+    /// The names of their inputs, 1 to 16.
+    pub inputs: &'a [&'a str],
+}
+
 /// A command that shows what comes of its files' texts alone: it writes no file and reaches no other process.
 #[derive(Clone, Copy)]
 pub(crate) enum Plain<'a> {
@@ -75,6 +89,8 @@ pub(crate) enum Plain<'a> {
     Orig(OrigWords<'a>),
     Local(LocalWords<'a>),
     Gen(GeneratedWords),
+    Serve(ServeWords<'a>),
+    Audit { program: &'a str },
 }
 
 /// What the words ask for.
@@ -96,7 +112,8 @@ pub(crate) fn names_of<'a>(alloc: Global, plain: &Plain<'a>) -> Result<Vec<&'a s
         Plain::Check { program }
         | Plain::Explain { program }
         | Plain::Outline { program }
-        | Plain::Picture { program } => Vec::from_slice(alloc, &[program]),
+        | Plain::Picture { program }
+        | Plain::Audit { program } => Vec::from_slice(alloc, &[program]),
         Plain::ExplainPair(words) => {
             Vec::from_slice(alloc, &[words.program, words.host, words.policy])
         }
@@ -109,7 +126,17 @@ pub(crate) fn names_of<'a>(alloc: Global, plain: &Plain<'a>) -> Result<Vec<&'a s
             )
         }
         Plain::Gen(_) => Ok(Vec::new(alloc)),
+        Plain::Serve(words) => served_names(alloc, words),
     }
+}
+
+// The names of the files of several pairs: the texts that they share, and their inputs.
+fn served_names<'a>(alloc: Global, words: ServeWords<'a>) -> Result<Vec<&'a str>, AllocError>
+    ensures { IfOk result (λ v. map (λ n. n.now) v.items ≡ words.entry.program.now ∷ words.entry.host.now ∷ words.entry.policy.now ∷ map (λ n. n.now) words.entry.inputs.now) }
+{
+    let mut names = Vec::from_slice(alloc, &[words.program, words.host, words.policy])?;
+    names.extend_from_slice(words.inputs)?;
+    Ok(names)
 }
 
 // The number of a word in digits without a leading zero, if it is at most `most`.
@@ -135,7 +162,7 @@ fn is_spelling(n: u32, word: &str) -> bool
 }
 
 /// What the words ask for; none where they ask for nothing.
-pub(crate) fn command_of<'a>(words: &[&'a str]) -> Option<Command<'a>>
+pub(crate) fn command_of<'a>(words: &'a [&'a str]) -> Option<Command<'a>>
     ensures { MatchOption result (IsUsage (map (λ w. w.now) words.now)) (λ c. Says (map (λ w. w.now) words.now) (command_seen c)) }
 {
     match words {
@@ -145,7 +172,7 @@ pub(crate) fn command_of<'a>(words: &[&'a str]) -> Option<Command<'a>>
 }
 
 // What a word and those after it ask for.
-fn command_after<'a>(word: &str, rest: &[&'a str]) -> Option<Command<'a>>
+fn command_after<'a>(word: &str, rest: &'a [&'a str]) -> Option<Command<'a>>
     ensures { MatchOption result (IsUsage (word.now ∷ map (λ w. w.now) rest.now)) (λ c. Says (word.now ∷ map (λ w. w.now) rest.now) (command_seen c)) }
 {
     if rest.is_empty() {
@@ -168,6 +195,10 @@ fn command_after<'a>(word: &str, rest: &[&'a str]) -> Option<Command<'a>>
         split_words(rest)
     } else if word == "gen" {
         generated_words(rest)
+    } else if word == "serve" {
+        serve_words(rest)
+    } else if word == "audit" {
+        audit_words(rest)
     } else {
         None
     }
@@ -459,4 +490,55 @@ fn generated_form<'a>(seed: &str, count: &str) -> Option<Command<'a>>
         return None;
     }
     Some(Command::Show(Plain::Gen(GeneratedWords { seed, count })))
+}
+
+// The words after `serve`.
+fn serve_words<'a>(words: &'a [&'a str]) -> Option<Command<'a>>
+    ensures { MatchOption result (AreNotServe (codes "serve" ∷ map (λ w. w.now) words.now)) (λ c. Says (codes "serve" ∷ map (λ w. w.now) words.now) (command_seen c)) }
+{
+    let [program, words @ ..] = words else {
+        return None;
+    };
+    let [host, words @ ..] = words else {
+        return None;
+    };
+    let [policy, words @ ..] = words else {
+        return None;
+    };
+    let [turns, inputs @ ..] = words else {
+        return None;
+    };
+    serve_form(program, host, policy, turns, inputs)
+}
+
+fn serve_form<'a>(
+    program: &'a str,
+    host: &'a str,
+    policy: &'a str,
+    turns: &str,
+    inputs: &'a [&'a str],
+) -> Option<Command<'a>>
+    ensures { MatchOption result
+        (AreNotServe (codes "serve" ∷ program.now ∷ host.now ∷ policy.now ∷ turns.now ∷ map (λ w. w.now) inputs.now))
+        (λ c. Says (codes "serve" ∷ program.now ∷ host.now ∷ policy.now ∷ turns.now ∷ map (λ w. w.now) inputs.now) (command_seen c)) }
+{
+    let turns = number(turns, u32::MAX)?;
+    if inputs.is_empty() || inputs.len() > MOST_INPUTS {
+        return None;
+    }
+    Some(Command::Show(Plain::Serve(ServeWords {
+        program,
+        host,
+        policy,
+        turns,
+        inputs,
+    })))
+}
+
+// The words after `audit`.
+fn audit_words<'a>(words: &[&'a str]) -> Option<Command<'a>>
+    ensures { MatchOption result (AreNotOne (map (λ w. w.now) words.now)) (λ c. Says (codes "audit" ∷ map (λ w. w.now) words.now) (command_seen c)) }
+{
+    let program = one_name(words)?;
+    Some(Command::Show(Plain::Audit { program }))
 }

@@ -13,6 +13,7 @@ use Rattle.privtrans_app.proofs.ComesLemmas.{keeps_same, memory_comes, puts_come
 use Rattle.privtrans_app.proofs.Cuts.{gives_whole}
 use Rattle.privtrans_app.proofs.HeldLemmas.{Whole, whole_of}
 use Rattle.privtrans_app.proofs.PlainLemmas.{plain_link, plain_no_slave, plain_out, plain_writes, quiet_of}
+use Rattle.privtrans_app.proofs.SessionLemmas.{as_many_texts}
 use Rattle.privtrans_app.proofs.TurnLemmas.{no_turns, refusal_turns, shown_turns}
 use Rattle.privtrans_app.proofs.Statuses.{other}
 use Rattle.privtrans_app.proofs.top.shown.Goals as goal
@@ -65,3 +66,9 @@ returns-clause-ending g c = λ b a.
 
 pub returns-clause-turns : goal.returns-clause-turns
 returns-clause-turns g c = λ b a. no_turns (plain_seen c.args.plain.now) _ _ 12 (λ ran. other 12 12 refl refl ran)
+
+-- as many texts were read as there are names
+pub show-requires-clause-read : goal.show-requires-clause-read
+show-requires-clause-read g c = λ _ _.
+    ap length c.as_slice-2.ensures.value ∙ as_many_texts (g.F.Folder.files c.args.folder.now) _ c.in-Ok-read_all.texts.items c.in-Ok-read_all.ensures.texts
+    ∙ ap length (ap (λ ns. map (λ n. n.now) ns) c.as_slice.ensures.value ∙ c.in-Ok.ensures)

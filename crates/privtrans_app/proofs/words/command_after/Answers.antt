@@ -31,8 +31,8 @@ returns-then-is_empty c =
     let none : length c.args.rest.now ≡ 0 = grind arith in
     alone c.one_word.result c.args.word.now (map (λ w. w.now) c.args.rest.now) (none_there c.args.rest.now none) c.one_word.ensures
 
-pub returns-else-eq-9 : goal.returns-else-eq-9
-returns-else-eq-9 c =
+pub returns-else-eq-11 : goal.returns-else-eq-11
+returns-else-eq-11 c =
     let some : length c.args.rest.now ≡ 0 → ⊥ = λ none. grind arith in
     no_command c.args.word.now (map (λ w. w.now) c.args.rest.now) (some_there c.args.rest.now some) (record {
       no_run = differs c.args.word.now (codes "run") c.eq.result c.eq.ensures c.if-eq.false;
@@ -44,4 +44,6 @@ returns-else-eq-9 c =
       no_picture = differs c.args.word.now (codes "picture") c.eq-else-eq-6.result c.eq-else-eq-6.ensures c.if-eq-7.false;
       no_split = differs c.args.word.now (codes "split") c.eq-else-eq-7.result c.eq-else-eq-7.ensures c.if-eq-8.false;
       no_gen = differs c.args.word.now (codes "gen") c.eq-else-eq-8.result c.eq-else-eq-8.ensures c.if-eq-9.false;
+      no_serve = differs c.args.word.now (codes "serve") c.eq-else-eq-9.result c.eq-else-eq-9.ensures c.if-eq-10.false;
+      no_audit = differs c.args.word.now (codes "audit") c.eq-else-eq-10.result c.eq-else-eq-10.ensures c.if-eq-11.false;
     })
