@@ -20,4 +20,4 @@ mod verdicts;
 pub use labels::label_edges;
 pub use laws::{audited_results_are_nodes, nodes_are_numbered, nodes_are_shared};
 pub use nodes::{Nodes, nodes_of};
-pub use verdicts::{Verdict, independent, verdicts_of};
+pub use verdicts::{Verdict, independent, result_slot, verdicts_of};

@@ -4,7 +4,7 @@ ghost use Rattle.std.specs.List.{flat_map};
 ghost use Rattle.pt_core.specs.CodeTree.{view_function, view_monitor};
 ghost use Rattle.pt_core.specs.WellFormed.{is_well_formed_monitor};
 ghost use Rattle.propagation.specs.Marks.{path_shown};
-ghost use Rattle.monitor_labels.specs.Nodes.{of_result};
+ghost use Rattle.monitor_labels.specs.Nodes.{of_result, slot_of};
 ghost use Rattle.monitor_labels.specs.NodesView.{AreNodes};
 ghost use Rattle.monitor_labels.specs.Secrecy as is;
 ghost use Rattle.monitor_labels.specs.Searching.{IsOrdered};
@@ -86,6 +86,20 @@ fn verdicts_among(
         add_verdict(p, nodes, marks, function.id, &mut verdicts)?;
     }
     Ok(verdicts)
+}
+
+/// The node of what a function, or a privileged host, gives.
+///
+/// # Errors
+///
+/// Want of memory alone; so would be a function that has no signature, which there is none of in a program's code.
+pub fn result_slot(p: &MonitorProgram, nodes: &Nodes, f: FnId) -> Result<Slot, AllocError>
+    requires well_formed { IsTrue (is_well_formed_monitor (view_monitor p.now)) }
+    requires nodes { AreNodes (view_monitor p.now) nodes.now }
+    ensures { IfOk result (λ s. s ≡ slot_of (view_monitor p.now) (of_result f.0)) }
+{
+    let slot = result_of(p, nodes, f)?;
+    Ok(slot)
 }
 
 /// The verdicts on all functions whose results are given openly: those with bodies that are marked `priv` and

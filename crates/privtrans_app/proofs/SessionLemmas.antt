@@ -1,6 +1,5 @@
 -- What several pairs come to, as it is shown.
-use Rattle.std.proofs.Common.{◌≡◌, ◌≤◌, ◌<◌, ◌+◌, ◌-◌, ◌∙◌, ℕ, suc, List, [], ◌∷◌, ◌++◌, Option, Result, Ok, Err, IfOk, MatchResult, drop, get_or, length, map, take, refl, sym, ap, subst, inl, inr, arith, add-one, append_assoc, drop-cons, length-drop}
-use Rattle.std.proofs.lemmas.List.{take_all}
+use Rattle.std.proofs.Common.{◌≡◌, ◌≤◌, ◌<◌, ◌+◌, ◌∙◌, ℕ, suc, List, [], ◌∷◌, ◌++◌, Option, Result, Ok, Err, IfOk, MatchResult, drop, get_or, length, map, refl, sym, ap, subst, inl, inr, arith, add-one, append_assoc, drop-cons}
 use Rattle.std.specs.declared.alloc.AllocError.{AllocError}
 use Rattle.pt_base.specs.Files.{Files}
 use Rattle.pt_base.specs.declared.chooser.Who.{Who}
@@ -54,15 +53,12 @@ few_texts p s n is asked same =
     (subst (λ (q : Plain). n ≡ length (files_of (plain_seen q))) is same)
 
 -- the inputs stand behind the three texts that are shared
-behind_three : (texts : List (List ℕ)) → 4 ≤ length texts → drop 3 texts ≡ inputs_of texts
-behind_three [] some = absurd (omega (arith, some))
-behind_three (p ∷ []) some = absurd (omega (arith, some))
-behind_three (p ∷ h ∷ []) some = absurd (omega (arith, some))
-behind_three (p ∷ h ∷ q ∷ []) some = absurd (omega (arith, some))
-behind_three (p ∷ h ∷ q ∷ first ∷ all) some = refl
-
-pub inputs_are : (texts : List (List ℕ)) → 4 ≤ length texts → take (length texts - 3) (drop 3 texts) ≡ inputs_of texts
-inputs_are texts some = let long = length-drop 3 texts in take_all (length texts - 3) (drop 3 texts) (omega (arith, long)) ∙ behind_three texts some
+pub inputs_are : (texts : List (List ℕ)) → 4 ≤ length texts → drop 3 texts ≡ inputs_of texts
+inputs_are [] some = absurd (omega (arith, some))
+inputs_are (p ∷ []) some = absurd (omega (arith, some))
+inputs_are (p ∷ h ∷ []) some = absurd (omega (arith, some))
+inputs_are (p ∷ h ∷ q ∷ []) some = absurd (omega (arith, some))
+inputs_are (p ∷ h ∷ q ∷ first ∷ all) some = refl
 
 -- ---- one session more is told
 

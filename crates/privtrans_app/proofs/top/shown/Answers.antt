@@ -69,6 +69,6 @@ returns-clause-turns g c = λ b a. no_turns (plain_seen c.args.plain.now) _ _ 12
 
 -- as many texts were read as there are names
 pub show-requires-clause-read : goal.show-requires-clause-read
-show-requires-clause-read g c = λ _ _.
+show-requires-clause-read g c =
     ap length c.as_slice-2.ensures.value ∙ as_many_texts (g.F.Folder.files c.args.folder.now) _ c.in-Ok-read_all.texts.items c.in-Ok-read_all.ensures.texts
     ∙ ap length (ap (λ ns. map (λ n. n.now) ns) c.as_slice.ensures.value ∙ c.in-Ok.ensures)

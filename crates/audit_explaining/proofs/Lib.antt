@@ -1,0 +1,4 @@
+pub mod Cuts
+pub mod ExistingReasons
+mod InfoLemmas
+mod ReasonLemmas
