@@ -26,7 +26,7 @@ too_long = record { kind = TooLong; at = 1048576 }
 -- its block is told by the bytes before its place
 abbrev told : List ℕ → List ℕ → List ℕ
 told name xs =
-    (head_of name (record { line = feeds_in xs + 1; column = behind_feed 0 xs + 1 }) ++ codes "the text has more than 1048576 bytes" ++ codes "\n" ++ []) ++ lex_line too_long ++ codes "\n"
+    (head_of name (record { line = feeds_in xs + 1; column = behind_feed 0 xs + 1 }) ++ codes "the text has more than 1048576 bytes" ++ codes "\n" ++ []) ++ codes "mend: make it shorter\n" ++ lex_line too_long ++ codes "\n"
 
 long_block : (name whole cut : List ℕ) → cut ≡ take 1048577 whole → lex_block name cut too_long ≡ lex_block name whole too_long
 long_block name whole cut is =

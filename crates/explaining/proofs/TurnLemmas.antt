@@ -151,17 +151,17 @@ module _ (faults : List FlowFault) (up : IsStrictlySortedBy fault_cmp faults) wh
     in_turn = record { sorted = ascends turns all_in are.sorted; same = λ f. (from_turns f, has_fault f) }
 
 -- the blocks in turn are those of the faults
-texts_are : (name text : List ℕ) (t : TypedTree) (slots : List SlotInfo) (homes : List Home) (faults : List FlowFault) (turns : List Turn) → ((x : Turn) → Contains turns x → x.number < length faults) →
-    flat_map (turn_block name text t slots homes faults) turns ≡ flat_map (block_in name text t slots homes) (map (fault_in faults) turns)
-texts_are name text t slots homes faults [] all = refl
-texts_are name text t slots homes faults (x ∷ turns) all =
-    let rest = texts_are name text t slots homes faults turns (λ y i. all y (contains_later x turns y i)) in
-    let one : turn_block name text t slots homes faults x ≡ block_in name text t slots homes (fault_in faults x) =
-    ap (λ o. option_map_or (block_in name text t slots homes) o []) (slice_get-get_or faults x.number no_fault (all x (contains_first x turns))) in
+texts_are : (name text source : List ℕ) (t : TypedTree) (slots : List SlotInfo) (homes : List Home) (faults : List FlowFault) (turns : List Turn) → ((x : Turn) → Contains turns x → x.number < length faults) →
+    flat_map (turn_block name text source t slots homes faults) turns ≡ flat_map (block_in name text source t slots homes) (map (fault_in faults) turns)
+texts_are name text source t slots homes faults [] all = refl
+texts_are name text source t slots homes faults (x ∷ turns) all =
+    let rest = texts_are name text source t slots homes faults turns (λ y i. all y (contains_later x turns y i)) in
+    let one : turn_block name text source t slots homes faults x ≡ block_in name text source t slots homes (fault_in faults x) =
+    ap (λ o. option_map_or (block_in name text source t slots homes) o []) (slice_get-get_or faults x.number no_fault (all x (contains_first x turns))) in
     λ i. one i ++ rest i
 
 pub blocks_are : (name program lines : List ℕ) (t : TypedTree) (slots : List SlotInfo) (slice homes : List Home) (text : List ℕ) (faults : List FlowFault) → lines ≡ program → slots ≡ slots_of t → slice ≡ homes →
-    AreHomes t homes → IsStrictlySortedBy fault_cmp faults → AreTurnBlocks name lines t slots slice faults text → AreFlowBlocks name program t faults text
+    AreHomes t homes → IsStrictlySortedBy fault_cmp faults → AreTurnBlocks name lines program t slots slice faults text → AreFlowBlocks name program t faults text
 blocks_are name program lines t slots slice homes text faults is all same at up blocks =
     let turns = blocks.0 in
     let are = blocks.1 in (
@@ -170,6 +170,6 @@ blocks_are name program lines t slots slice homes text faults is all same at up 
       map (fault_in faults) turns,
       in_turn faults up turns are,
       blocks.2
-          ∙ (λ i. flat_map (turn_block name (is i) t (all i) (same i) faults) turns)
-          ∙ texts_are name program t (slots_of t) homes faults turns (λ x i. (is_in faults up x (is_turn 0 faults x ((are.same x).0 i))).0),
+          ∙ (λ i. flat_map (turn_block name (is i) program t (all i) (same i) faults) turns)
+          ∙ texts_are name program program t (slots_of t) homes faults turns (λ x i. (is_in faults up x (is_turn 0 faults x ((are.same x).0 i))).0),
     )

@@ -13,6 +13,9 @@ use Rattle.flow_rules.specs.declared.rule.Rule.TheVariants.{OperationOnPriv, Pri
 use Rattle.refusal_lines.specs.FlowLines.{flow_line, shows_way}
 use Rattle.source_places.specs.Excerpts.{quoted}
 use Rattle.source_places.specs.Heads.{head}
+use Rattle.text_hints.specs.Around.{edges_of}
+use Rattle.text_hints.specs.Uses.{use_of}
+use Rattle.text_hints.specs.declared.use_hints.UseHint.{UseHint}
 use Rattle.explaining.specs.FrontBlocks.{span_excerpt}
 use Rattle.explaining.specs.declared.homes.Home.{Home}
 use Rattle.explaining.specs.Homes.{place_home}
@@ -74,18 +77,18 @@ rule_home t homes f = if in_function f.rule then place_home t homes f.span.from 
 abbrev pub quote_text : List ℕ → List ℕ → List ℕ → Span → List ℕ
 quote_text name text home span = head name text span.from ++ home ++ quoted text span.from (span.to - span.from)
 
--- what is said of a fault, with the line of its place
-abbrev pub fault_text : List ℕ → List ℕ → List ℕ → FlowFault → List ℕ
-fault_text name text home f =
-    quote_text name text home f.span ++ rule_sentence f.rule ++ codes "\n" ++ span_excerpt text f.span
+-- what is said of a fault whose value is looked at so, with the line of its place
+abbrev pub fault_text : List ℕ → List ℕ → List ℕ → FlowFault → UseHint → List ℕ
+fault_text name text home f h =
+    quote_text name text home f.span ++ rule_sentence f.rule h ++ codes "\n" ++ span_excerpt text f.span
 
 -- the block of a fault, with the function in which it stands and the cause of the secret
-abbrev pub block_with : List ℕ → List ℕ → List ℕ → List ℕ → FlowFault → List ℕ
-block_with name text home cause f = fault_text name text home f ++ rule_way name text cause f ++ rule_mend f.rule ++ flow_line f ++ codes "\n"
+abbrev pub block_with : List ℕ → List ℕ → List ℕ → List ℕ → FlowFault → UseHint → List ℕ
+block_with name text home cause f h = fault_text name text home f h ++ rule_way name text cause f ++ rule_mend f.rule h ++ flow_line f ++ codes "\n"
 
--- the same in a program of which these are the slots and the functions that have bodies
-abbrev pub block_in : List ℕ → List ℕ → TypedTree → List SlotInfo → List Home → FlowFault → List ℕ
-block_in name text t slots homes f = block_with name text (rule_home t homes f) (origin_text t slots f.origin) f
+-- the same in a program of which these are the text that is looked at, the slots and the functions that have bodies
+abbrev pub block_in : List ℕ → List ℕ → List ℕ → TypedTree → List SlotInfo → List Home → FlowFault → List ℕ
+block_in name text source t slots homes f = block_with name text (rule_home t homes f) (origin_text t slots f.origin) f (use_of (edges_of source f.span))
 
 abbrev pub flow_block : List ℕ → List ℕ → TypedTree → List Home → FlowFault → List ℕ
-flow_block name text t homes f = block_in name text t (slots_of t) homes f
+flow_block name text t homes f = block_in name text text t (slots_of t) homes f

@@ -28,8 +28,8 @@ abbrev pub turn_cmp : Turn → Turn → Ordering
 turn_cmp a b = ordering_then (nat_cmp a.known b.known) (ordering_then (nat_cmp a.seed b.seed) (ordering_then (span_cmp a.place b.place) (nat_cmp a.number b.number)))
 
 -- the block of the fault whose turn it is
-abbrev pub turn_block : List ℕ → List ℕ → TypedTree → List SlotInfo → List Home → List FlowFault → Turn → List ℕ
-turn_block name text t slots homes faults x = option_map_or (block_in name text t slots homes) (slice_get faults x.number) []
+abbrev pub turn_block : List ℕ → List ℕ → List ℕ → TypedTree → List SlotInfo → List Home → List FlowFault → Turn → List ℕ
+turn_block name text source t slots homes faults x = option_map_or (block_in name text source t slots homes) (slice_get faults x.number) []
 
 abbrev pub no_fault : FlowFault
 no_fault = record { rule = PrivMain; span = record { from = 0; to = 0 }; origin = None; path = [] }
@@ -43,5 +43,6 @@ pub record AreTurns (faults : List FlowFault) (turns : List Turn) : Type 0 where
   pub same : (x : Turn) → Contains turns x ↔ Contains (turns_from 0 faults) x
 
 -- the blocks of faults in turn
-abbrev pub AreTurnBlocks : List ℕ → List ℕ → TypedTree → List SlotInfo → List Home → List FlowFault → List ℕ → Type 0
-AreTurnBlocks name text t slots homes faults report = (turns : List Turn) × AreTurns faults turns × (report ≡ flat_map (turn_block name text t slots homes faults) turns)
+abbrev pub AreTurnBlocks : List ℕ → List ℕ → List ℕ → TypedTree → List SlotInfo → List Home → List FlowFault → List ℕ → Type 0
+AreTurnBlocks name text source t slots homes faults report =
+    (turns : List Turn) × AreTurns faults turns × (report ≡ flat_map (turn_block name text source t slots homes faults) turns)

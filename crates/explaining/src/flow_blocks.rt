@@ -24,6 +24,7 @@ use sides::all_slots;
 use source_places::Lines;
 use stages::room_for;
 use std::alloc::{AllocError, Global};
+use text_hints::{UseHint, use_hint};
 use typed_tree::Typed;
 
 // appends the place of a fault with a quote of it
@@ -47,12 +48,13 @@ fn push_fault_text(
     lines: &Lines<'_>,
     home: &[u8],
     fault: &FlowFault,
+    hint: UseHint,
     text: &mut Vec<u8>,
 ) -> Result<(), AllocError>
-    ensures { OnOk result (text.new.items ≡ text.old.items ++ is.fault_text name.now (text_of lines.now) home.now fault.now) }
+    ensures { OnOk result (text.new.items ≡ text.old.items ++ is.fault_text name.now (text_of lines.now) home.now fault.now hint) }
 {
     push_quote(name, lines, home, fault.span, text)?;
-    push_sentence(rule_sentence(fault.rule), text)?;
+    push_sentence(rule_sentence(fault.rule, hint), text)?;
     push_span_excerpt(lines, fault.span, text)?;
     Ok(())
 }
@@ -80,13 +82,14 @@ fn push_block(
     home: &[u8],
     cause: &[u8],
     fault: &FlowFault,
+    hint: UseHint,
     text: &mut Vec<u8>,
 ) -> Result<(), AllocError>
-    ensures { OnOk result (text.new.items ≡ text.old.items ++ is.block_with name.now (text_of lines.now) home.now cause.now fault.now) }
+    ensures { OnOk result (text.new.items ≡ text.old.items ++ is.block_with name.now (text_of lines.now) home.now cause.now fault.now hint) }
 {
-    push_fault_text(name, lines, home, fault, text)?;
+    push_fault_text(name, lines, home, fault, hint, text)?;
     push_rule_way(name, lines, cause, fault, text)?;
-    text.extend_from_slice(rule_mend(fault.rule).as_bytes())?;
+    text.extend_from_slice(rule_mend(fault.rule, hint).as_bytes())?;
     push_fault(fault, text)?;
     text.push(b'\n')?;
     Ok(())
@@ -129,11 +132,20 @@ fn push_block_in(
     fault: &FlowFault,
     text: &mut Vec<u8>,
 ) -> Result<(), AllocError>
-    ensures { OnOk result (text.new.items ≡ text.old.items ++ is.block_in name.now (text_of lines.now) (view_typed program.entry.t.now) program.entry.slots.now program.entry.homes.now fault.now) }
+    ensures { OnOk result (text.new.items ≡ text.old.items ++ is.block_in name.now (text_of lines.now) program.entry.text.now (view_typed program.entry.t.now) program.entry.slots.now program.entry.homes.now fault.now) }
 {
     let home = rule_home(alloc, program, fault)?;
     let cause = origin_text(alloc, program.t, program.slots, fault.origin)?;
-    push_block(name, lines, home.as_slice(), cause.as_slice(), fault, text)
+    let hint = use_hint(program.text, fault.span);
+    push_block(
+        name,
+        lines,
+        home.as_slice(),
+        cause.as_slice(),
+        fault,
+        hint,
+        text,
+    )
 }
 
 // appends the block of the fault whose turn it is
@@ -146,7 +158,7 @@ fn push_turn(
     turn: Turn,
     text: &mut Vec<u8>,
 ) -> Result<(), AllocError>
-    ensures { OnOk result (text.new.items ≡ text.old.items ++ turn_block name.now (text_of lines.now) (view_typed program.entry.t.now) program.entry.slots.now program.entry.homes.now faults.now turn) }
+    ensures { OnOk result (text.new.items ≡ text.old.items ++ turn_block name.now (text_of lines.now) program.entry.text.now (view_typed program.entry.t.now) program.entry.slots.now program.entry.homes.now faults.now turn) }
 {
     match faults.get(turn.number) {
         Some(fault) => push_block_in(alloc, name, lines, program, fault, text),
@@ -163,7 +175,7 @@ fn blocks_of(
     faults: &[FlowFault],
     turns: &[Turn],
 ) -> Result<Vec<u8>, AllocError>
-    ensures { IfOk result (λ text. text.items ≡ flat_map (turn_block name.now (text_of lines.now) (view_typed program.entry.t.now) program.entry.slots.now program.entry.homes.now faults.now) turns.now) }
+    ensures { IfOk result (λ text. text.items ≡ flat_map (turn_block name.now (text_of lines.now) program.entry.text.now (view_typed program.entry.t.now) program.entry.slots.now program.entry.homes.now faults.now) turns.now) }
 {
     let mut text = Vec::new(alloc);
     for turn in turns {
@@ -181,7 +193,7 @@ fn blocks_in_turn(
     program: Parts<'_>,
     faults: &[FlowFault],
 ) -> Result<Vec<u8>, AllocError>
-    ensures { IfOk result (λ text. AreTurnBlocks name.now (text_of lines.now) (view_typed program.entry.t.now) program.entry.slots.now program.entry.homes.now faults.now text.items) }
+    ensures { IfOk result (λ text. AreTurnBlocks name.now (text_of lines.now) program.entry.text.now (view_typed program.entry.t.now) program.entry.slots.now program.entry.homes.now faults.now text.items) }
 {
     let turns = turns_of(alloc, faults)?;
     let order = turns.as_slice();
@@ -211,7 +223,12 @@ pub fn flow_fault_blocks(
     let list = homes_of(alloc, t)?;
     let slots = all.as_slice();
     let homes = list.as_slice();
-    let parts = Parts { t, slots, homes };
+    let parts = Parts {
+        t,
+        text: program,
+        slots,
+        homes,
+    };
     let text = blocks_in_turn(alloc, name, &lines, parts, faults)?;
     Ok(text)
 }

@@ -11,5 +11,5 @@ returns c = (
   c.in_ok-turns.turns.items,
   c.in_ok-turns.ensures,
   c.in_ok-text.ensures
-      ∙ ap (λ (turns : List Turn). flat_map (turn_block c.args.name.now (text_of c.args.lines.now) (view_typed c.args.program.t.now) c.args.program.slots.now c.args.program.homes.now c.args.faults.now) turns) c.as_slice-order.ensures.value,
+      ∙ ap (λ (turns : List Turn). flat_map (turn_block c.args.name.now (text_of c.args.lines.now) c.args.program.text.now (view_typed c.args.program.t.now) c.args.program.slots.now c.args.program.homes.now c.args.faults.now) turns) c.as_slice-order.ensures.value,
 )

@@ -7,4 +7,4 @@ use Rattle.explaining.proofs.flow_blocks.blocks_of.Given as goal
 
 abbrev pub invariant-loop-turn : goal.invariant-loop-turn
 invariant-loop-turn l =
-    l.text.items ++ flat_map (turn_block l.name (text_of l.lines) (view_typed l.program.t.now) l.program.slots.now l.program.homes.now l.faults) (drop l.turn-index l.turns) ≡ flat_map (turn_block l.name (text_of l.lines) (view_typed l.program.t.now) l.program.slots.now l.program.homes.now l.faults) l.fn.turns
+    l.text.items ++ flat_map (turn_block l.name (text_of l.lines) l.program.text.now (view_typed l.program.t.now) l.program.slots.now l.program.homes.now l.faults) (drop l.turn-index l.turns) ≡ flat_map (turn_block l.name (text_of l.lines) l.program.text.now (view_typed l.program.t.now) l.program.slots.now l.program.homes.now l.faults) l.fn.turns
