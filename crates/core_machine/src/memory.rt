@@ -1,23 +1,28 @@
 // What statements do to a memory.
-ghost use Rattle.std.specs.Prelude.{◌≡◌, ◌<◌, ℕ, IfOk, IfSome, IsTrue, length, map, OnErr, OnOk, pos, Some, unwrap_or};
+ghost use Rattle.std.specs.Bool.{OnTrue};
+ghost use Rattle.std.specs.Prelude.{◌≡◌, ◌<◌, ℕ, IfOk, IfSome, IsTrue, length, List, map, OnErr, OnOk, pos, Some, unwrap_or, false, true};
 ghost use Rattle.block_memory.specs.Block.{fresh};
-ghost use Rattle.block_memory.specs.Blocks.{put};
+ghost use Rattle.block_memory.specs.Blocks.{put, without_frames};
 ghost use Rattle.block_memory.specs.declared.cell.BlockName.TheVariants.{Local};
+ghost use Rattle.block_memory.specs.declared.cell.Cell.{Cell};
 ghost use Rattle.block_memory.specs.declared.cell.Cell.TheVariants as cell;
-ghost use Rattle.machine_memory.specs.Memory.{blocks_of, IsOpen, layout_at, layouts_of, Stands};
+ghost use Rattle.machine_memory.specs.Memory.{blocks_of, frame_at, IsOpen, layout_at, layouts_of, Stands};
 ghost use Rattle.core_code.specs.Code.{cells_from};
 ghost use Rattle.core_code.specs.Effects.{shape_at};
 ghost use Rattle.pt_core.specs.Calls.{with_arguments};
 ghost use Rattle.pt_core.specs.Statements.{kept};
 ghost use Rattle.pt_core.specs.Values.{written, all_written, number_in};
-ghost use Rattle.core_forms.specs.Fits.{words_fit};
-ghost use Rattle.core_bytecode.specs.Settings.{setting_of};
+ghost use Rattle.core_forms.specs.Fits.{arg_fits, args_fit};
+ghost use Rattle.core_forms.specs.Ops.{AreValues};
+ghost use Rattle.core_forms.specs.declared.form.Arg.TheVariants as a;
 ghost use Rattle.machine_memory.specs.Layouts.{IsFirst};
-ghost use Rattle.core_machine.specs.FastCalls.{arguments_in};
+ghost use Rattle.core_bytecode.specs.Settings.{setting_of};
+ghost use Rattle.core_machine.specs.FastCalls.{PassesOne};
 ghost use Rattle.core_machine.specs.Live.{HasNoMore};
 
 use block_memory::{BlockName, Cell, CellAt};
-use core_bytecode::{FrameRef, word};
+use core_bytecode::{FrameRef, argument_pointer, word};
+use core_forms::Arg;
 use machine_memory::MachineMemory;
 use std::alloc::{AllocError, Global};
 
@@ -138,29 +143,115 @@ pub(crate) fn pass(
     Ok(())
 }
 
-/// The words at these places of a frame go to the first variables of a function that was entered over
-/// it.
+/// Arguments that are reckoned in a frame go to the first variables of a function that was entered over
+/// it. Not where one of them has no value or isn't what its variable takes.
 #[inline(always)]
 pub(crate) fn pass_over(
     memory: &mut MachineMemory,
     here: FrameRef,
     depth: u32,
     layout: u32,
-    places: &[u32],
-)
+    args: &[Arg],
+) -> bool
     requires caller { Stands memory.old here.depth here.layout }
-    requires fits { IsTrue (words_fit (layout_at memory.old here.layout) places.now) }
+    requires fits { IsTrue (args_fit (layout_at memory.old here.layout) args.now) }
     requires callee { Stands memory.old depth layout }
     requires over { here.depth < depth }
-    requires leads { (var : ℕ) → var < length places.now → IsFirst (layout_at memory.old layout).shapes var var }
-    ensures passed { blocks_of memory.new ≡ with_arguments (blocks_of memory.old) depth 0 (arguments_in (setting_of memory.old here.depth) places.now) }
+    ensures passed { OnTrue result ((cells : List Cell) × AreValues args.now (setting_of memory.old here.depth) cells × (blocks_of memory.new ≡ with_arguments (blocks_of memory.old) depth 0 cells)) }
+    ensures outside { without_frames (blocks_of memory.new) depth ≡ without_frames (blocks_of memory.old) depth }
     ensures stands { Stands memory.new depth layout }
     ensures layouts { layouts_of memory.new ≡ layouts_of memory.old }
     ensures no_more { HasNoMore (blocks_of memory.old) (blocks_of memory.new) }
 {
-    for var in 0..places.len() {
-        let w = word(memory, here, places[var]);
-        memory.set_leading(depth, layout, var, w);
+    let own = memory.leads(layout, args.len());
+    let mut var = 0u32;
+    for arg in args {
+        let Some(next) = var.checked_add(1) else {
+            return false;
+        };
+        if !pass_argument(memory, here, depth, layout, var, arg, own) {
+            return false;
+        }
+        var = next;
+    }
+    true
+}
+
+// One argument goes to a variable; `own` says that the word of the variable's own number is that of its
+// first integer, read with a sign.
+#[inline(always)]
+fn pass_argument(
+    memory: &mut MachineMemory,
+    here: FrameRef,
+    depth: u32,
+    layout: u32,
+    var: u32,
+    arg: &Arg,
+    own: bool,
+) -> bool
+    requires caller { Stands memory.old here.depth here.layout }
+    requires fits { IsTrue (arg_fits (layout_at memory.old here.layout) arg.now) }
+    requires callee { Stands memory.old depth layout }
+    requires first { own ≡ true → IsFirst (layout_at memory.old layout).shapes var var }
+    ensures passed { PassesOne result arg.now (setting_of memory.old here.depth) depth var (blocks_of memory.old) (blocks_of memory.new) }
+    ensures below { (d : ℕ) → d < depth → frame_at memory.new d ≡ frame_at memory.old d }
+    ensures stands { (d l : ℕ) → Stands memory.old d l → Stands memory.new d l }
+    ensures layouts { layouts_of memory.new ≡ layouts_of memory.old }
+{
+    if let Some(at) = leading_word(arg, own) {
+        let w = word(memory, here, at);
+        memory.set_leading(depth, layout, var as usize, w);
+        return true;
+    }
+    pass_other(memory, here, depth, layout, var, arg)
+}
+
+// The word that an argument is, if it is read with a sign and goes to the word of its variable's own
+// number.
+#[inline(always)]
+fn leading_word(arg: &Arg, own: bool) -> Option<u32>
+    ensures word { IfSome result (λ at. arg.now ≡ a.Word at false) }
+    ensures own { IfSome result (λ at. own ≡ true) }
+{
+    match arg {
+        Arg::Word { at, wide: false } => { if own { Some(*at) } else { None } }
+        _ => None,
+    }
+}
+
+// Any other argument goes to a variable.
+#[inline(never)]
+fn pass_other(
+    memory: &mut MachineMemory,
+    here: FrameRef,
+    depth: u32,
+    layout: u32,
+    var: u32,
+    arg: &Arg,
+) -> bool
+    requires caller { Stands memory.old here.depth here.layout }
+    requires fits { IsTrue (arg_fits (layout_at memory.old here.layout) arg.now) }
+    requires callee { Stands memory.old depth layout }
+    ensures passed { PassesOne result arg.now (setting_of memory.old here.depth) depth var (blocks_of memory.old) (blocks_of memory.new) }
+    ensures below { (d : ℕ) → d < depth → frame_at memory.new d ≡ frame_at memory.old d }
+    ensures stands { (d l : ℕ) → Stands memory.old d l → Stands memory.new d l }
+    ensures layouts { layouts_of memory.new ≡ layouts_of memory.old }
+{
+    match arg {
+        Arg::Word { at, wide } => {
+            let w = word(memory, here, *at);
+            if *wide {
+                memory.set_first_wide(depth, layout, var, w)
+            } else {
+                memory.set_first(depth, layout, var, w)
+            }
+        }
+        Arg::Pointer { pointing, further } => {
+            match argument_pointer(pointing, further, memory, here) {
+                Some(p) => memory.set_own_pointer(depth, layout, var, p),
+                None => false,
+            }
+        }
     }
 }
 
