@@ -8,7 +8,7 @@ use Rattle.pt_base.proofs.Lists.{append_grouped}
 use Rattle.runs.specs.State.{Event, Hosts, gives, trapped, spent, ◌>>=◌, take_turn, noted}
 use Rattle.source_meaning.specs.Memory.{Memory, local}
 use Rattle.source_meaning.specs.State.{State, Outcome}
-use Rattle.lifted_runs_law.specs.Noted.{bars, is_barred, made_in, own_event, own_events}
+use Rattle.lifted_runs_law.specs.Noted.{bars, is_barred, made_by, made_in, own_event, own_events}
 
 -- ---- what is seen
 
@@ -226,21 +226,18 @@ module _ (first : ℕ) where
     where
       events : own_events first st.events ++ es ≡ own_events first (st.events ++ es)
       events = sym (own_append st.events es ∙ ap (λ xs. own_events first st.events ++ xs) own.kept)
-
       counted : (st1 : State) (used new : ℕ) → Counts (noted es st) st1 used new → Counts st st1 used new
       counted st1 used new c =
           let all : made_in first (st.events ++ es) ≡ made_in first st.events + made_in first es = made_append st.events es in
           let none : made_in first es ≡ 0 = own.none in
           let made : made_in first st1.events ≡ made_in first (st.events ++ es) + new = c.made in
           record { left = c.left; made = omega (arith, all, none, made) }
-
       sees : (r : Outcome A) → Alike d f (noted es st) r → Alike d (λ st1. f (record st1 { events = own_events first (st.events ++ es) })) st r
       sees (gives a st1) k = record { shallow = k.shallow; used = k.used; new = k.new; counts = counted st1 k.used k.new k.counts; same = k.same }
       sees (trapped trap s st1) (inl b) = inl b
       sees (trapped trap s st1) (inr k) = inr (record { used = k.used; new = k.new; counts = counted st1 k.used k.new k.counts; memory = k.memory; same = k.same })
       sees (spent st1) (inl b) = inl b
       sees (spent st1) (inr k) = inr (record { used = k.used; new = k.new; counts = counted st1 k.used k.new k.counts; none = k.none; memory = k.memory; same = k.same })
-
       fits : (r : Outcome A) → Alike d (λ st1. f (record st1 { events = own_events first (st.events ++ es) })) st r → Alike d (λ st. f (noted es st)) st r
       fits r k = alike_fit d (λ st1. f (record st1 { events = own_events first (st.events ++ es) })) (λ st. f (noted es st)) st r (λ n. ap (λ xs. f (record (seen n st) { events = xs })) events) k
 

@@ -1,5 +1,5 @@
 -- Calls of functions that stood before are alike, at each depth.
-use Rattle.std.proofs.Common.{◌≡◌, ◌∙◌, ◌+◌, ◌<◌, ◌⊎◌, ℕ, zero, suc, pos, inl, inr, refl, ap, sym, arith, Bool, true, false, Option, Some, None, List, [], ◌∷◌, ◌++◌, length, map, get_or, nat_eq}
+use Rattle.std.proofs.Common.{◌≡◌, ◌∙◌, ◌+◌, ◌≤◌, ◌<◌, ◌⊎◌, ℕ, zero, suc, pos, inl, inr, refl, ap, sym, subst, arith, Bool, true, false, Option, Some, None, List, [], ◌∷◌, ◌++◌, length, map, get_or, nat_eq}
 use Rattle.std.specs.Prelude.{ℤ, IsTrue, ◌&&◌, not, if◌then◌else◌, nat_le, slice_get, unwrap_or}
 use Rattle.std.proofs.lemmas.Bool.{cases_order}
 use Rattle.std.proofs.lemmas.Bool.Decides.{nat_tests}
@@ -11,11 +11,12 @@ use Rattle.pt_base.proofs.Lists.{length_map}
 use Rattle.pt_base.proofs.Numbers.{nat_eq_above, nat_eq_true}
 use Rattle.pt_base.proofs.Places.{get_before, get_there}
 use Rattle.pt_tree.specs.declared.signature.Signature.{Signature}
+use Rattle.pt_tree.specs.HostStep.{Answer}
 use Rattle.pt_tree.specs.PlainNumbers.{plain_numbers}
-use Rattle.runs.specs.State.{guarded, gives, trapped, ◌>>=◌, take_turn, noted, guarded_event, out_event, put_host, answer_of}
+use Rattle.runs.specs.State.{Event, guarded, Hosts, gives, trapped, ◌>>=◌, take_turn, noted, guarded_event, out_event, put_host, answer_of, after_answer}
 use Rattle.typed_tree.specs.StatementTree.{BodyTree}
-use Rattle.typed_tree.specs.TypedTree.{FunctionTree}
-use Rattle.typed_tree.specs.WellFormed.{body_sound, is_block, is_well_formed, params_lead, scope_in, variable_sound}
+use Rattle.typed_tree.specs.TypedTree.{FunctionTree, TypedTree}
+use Rattle.typed_tree.specs.WellFormed.{body_sound, function_sound, is_block, is_well_formed, params_lead, scope_in, variable_sound}
 use Rattle.typed_tree.specs.WellFormedStatement.{is_sound}
 use Rattle.std.specs.List.{list_all}
 use Rattle.typed_tree.proofs.NumberLemmas.{function_is_sound}
@@ -26,7 +27,7 @@ use Rattle.source_meaning.specs.Values as v
 use Rattle.source_meaning.specs.Values.{Value, frame_cells, numbers_of}
 use Rattle.source_meaning.specs.Expressions.{Calls, Frame, sizes}
 use Rattle.source_meaning.specs.Statements.{Code, Flow, broke, continues, goes_on, returned, statement}
-use Rattle.source_meaning.specs.Functions.{answered, at_brace, body_or_none, brace_of, calls_within, frame_in, function_or_none, left_at, no_function, result_value, returned_from, without_locals}
+use Rattle.source_meaning.specs.Functions.{answered, at_brace, body_or_none, brace_of, calls_within, entered, frame_in, function_or_none, host_call, left_at, no_function, opened, result_value, returned_from, without_locals}
 use Rattle.source_meaning.proofs.CallBudgets.{keeps_calls}
 use Rattle.source_meaning.proofs.ExpressionBudgets.{CallsKeep}
 use Rattle.lifted_trees.specs.Lifted.{Lifting, IsOrdered, lifted, numbered_sites, op_functions}

@@ -1,22 +1,26 @@
 -- Chains of links, and calls with one operand or two, as the meaning goes through them.
 use Rattle.std.proofs.Common.{◌≡◌, ◌∙◌, ℕ, refl, ap, sym, Option, List, [], ◌∷◌, ◌++◌}
+
 use Rattle.pt_base.specs.declared.int_type.IntType.{IntType}
 use Rattle.pt_base.specs.declared.span.Span.{Span}
+use Rattle.pt_base.specs.declared.trap.Trap.{Trap}
 use Rattle.pt_int.specs.declared.operator.BinOp.{BinOp}
 use Rattle.pt_int.specs.Conversion.{conv}
 use Rattle.pt_int.specs.Operator.{binary_of}
 use Rattle.pt_int.proofs.Conversions.{conv-in_range, conv-same}
 use Rattle.runs.specs.Pointers.{if_ok}
 use Rattle.runs.specs.State.{gives, trapped, spent, ◌>>=◌}
-use Rattle.typed_tree.specs.declared.link.LinkStep.TheVariants.{Arithmetic}
+use Rattle.typed_tree.specs.declared.link.LinkStep.{LinkStep}
+use Rattle.typed_tree.specs.declared.link.LinkStep.TheVariants.{Arithmetic, Shift, Move, MoveBy, Difference, Compare}
 use Rattle.typed_tree.specs.declared.types.VarTy.{VarTy}
 use Rattle.typed_tree.specs.declared.types.VarTy.TheVariants.{Int}
-use Rattle.typed_tree.specs.ExpressionTree.{ExprTree, LinkTree, typed, link_trees, no_exprs, expr_and}
+use Rattle.typed_tree.specs.ExpressionTree as t
+use Rattle.typed_tree.specs.ExpressionTree.{ExprTree, LinkTree, LinkTrees, typed, link, no_links, link_and, link_trees, no_exprs, expr_and}
 use Rattle.source_meaning.specs.Memory as m
 use Rattle.source_meaning.specs.Memory.{Cell}
 use Rattle.source_meaning.specs.State.{State, Outcome}
-use Rattle.source_meaning.specs.Values.{Value, cell_of, converted, converted_cell, number_in, stepped}
-use Rattle.source_meaning.specs.Expressions.{Context, form_value, link_type, link_value, links_value, type_of, value_of, values_of}
+use Rattle.source_meaning.specs.Values.{Value, holds, cell_of, converted, converted_cell, number_in, stepped}
+use Rattle.source_meaning.specs.Expressions.{Context, cell_or_trap, form_value, link_type, link_value, links_value, sizes, type_of, value_of, values_of}
 use Rattle.lifted_trees.specs.Lifted.{chain_of, form_of}
 
 -- ---- one part after another

@@ -1,12 +1,13 @@
 -- Expressions and raised ones are alike.
-use Rattle.std.proofs.Common.{◌≡◌, ◌∙◌, ◌+◌, ◌<◌, ℕ, refl, ap, sym, subst, arith, Bool, true, false, Option, Some, None, List, [], ◌∷◌, ◌++◌, length}
+use Rattle.std.proofs.Common.{◌≡◌, ◌∙◌, ◌+◌, ◌≤◌, ◌<◌, ◌⊎◌, inl, inr, ℕ, zero, suc, pos, refl, ap, sym, subst, arith, Bool, true, false, Option, Some, None, Result, Ok, Err, List, [], ◌∷◌, ◌++◌, length}
 use Rattle.std.specs.Prelude.{IsTrue, ◌&&◌, ◌||◌, not, if◌then◌else◌, slice_get}
+use Rattle.pt_base.specs.declared.int_type.IntType.{IntType}
 use Rattle.pt_base.specs.declared.span.Span.{Span}
 use Rattle.pt_base.proofs.Booleans.{and_true_first, and_true_second, both_hold, both_hold_first, both_hold_second}
 use Rattle.pt_base.proofs.Places.{get_below_length}
 use Rattle.pt_int.specs.declared.operator.UnOp.{UnOp}
 use Rattle.pt_tree.specs.declared.signature.Signature.{Signature}
-use Rattle.runs.specs.State.{gives, ◌>>=◌}
+use Rattle.runs.specs.State.{gives, trapped, spent, ◌>>=◌}
 use Rattle.typed_tree.specs.declared.link.LinkStep.{LinkStep}
 use Rattle.typed_tree.specs.declared.link.LinkStep.TheVariants.{Arithmetic, Shift, Move, MoveBy, Difference, Compare}
 use Rattle.typed_tree.specs.declared.link.LogicalOp.{LogicalOp}
@@ -23,16 +24,16 @@ use Rattle.typed_tree.proofs.SameTypes.{equal_options}
 use Rattle.source_meaning.specs.Memory.{global, local, null, number}
 use Rattle.source_meaning.specs.State.{State, Outcome}
 use Rattle.source_meaning.specs.Values.{Location, Value, holds, nothing, cell_of, converted, is_true, stepped, truth_value, unary_cell}
-use Rattle.source_meaning.specs.Expressions.{Calls, Context, Frame, address_of, cell_or_trap, compounded, counted, decayed, dereferenced, field_at, form_location, form_value, indexed, is_decided, link_value, links_value, loaded, location_of, nowhere, operands_value, or_trap, root_location, steps_location, store, type_at, type_of, type_or_int, value_of, values_of}
-use Rattle.lifted_trees.specs.Sites.{before, conversion, between, SiteTree, Secrets, span_of, same_span, is_number, int_of, changes_int, is_operator, left_type, secret_behind, unary_site, conversion_site, left_site, step_site, sites_in, form_sites, taken_sites, links_sites, operands_sites, all_sites_in, place_sites, root_sites, steps_sites}
+use Rattle.source_meaning.specs.Expressions.{Calls, Context, Frame, address_of, assigned_location, cell_or_trap, compounded, counted, decayed, dereferenced, field_at, form_location, form_value, indexed, is_decided, link_value, links_value, loaded, location_of, nowhere, operand_value, operands_value, or_trap, root_location, step_location, steps_location, store, type_at, type_of, type_or_int, value_of, values_of}
+use Rattle.lifted_trees.specs.Sites.{Operation, before, conversion, between, SiteTree, Secrets, span_of, same_span, is_number, int_of, changes_int, is_operator, left_type, secret_behind, unary_site, conversion_site, left_site, step_site, sites_in, form_sites, taken_sites, links_sites, operands_sites, all_sites_in, place_sites, root_sites, steps_sites}
 use Rattle.lifted_trees.specs.Lifted.{Lifting, callees, chain_of, form_of, left_operand, lifted, number_in, op_expr, op_function, raised, raised_all, raised_form, raised_links, raised_operand, raised_operands, raised_place, raised_root, raised_steps, request}
 use Rattle.lifted_trees.proofs.Eaches.{Each, each_first, each_here, each_second, no_sites, one_site}
 use Rattle.lifted_trees.proofs.KeptLemmas.{assign_kept}
 use Rattle.lifted_trees.proofs.OperatorLemmas.{changes_numbers, number_is, step_numbers, unchanged_self}
 use Rattle.lifted_runs_law.specs.Noted.{noted_calls}
-use Rattle.lifted_runs_law.proofs.Alike.{Sim, sim_bind, sim_either, sim_fit, sim_fit_lifted, sim_gives, sim_if}
+use Rattle.lifted_runs_law.proofs.Alike.{Alike, IsShallow, Sim, sim_bind, sim_either, sim_fit, sim_fit_lifted, sim_gives, sim_if}
 use Rattle.lifted_runs_law.proofs.Chains.{arithmetic_converted, bind_gives, bind_grouped, bind_same, called_one, called_two, chain_pushed, type_after, type_pushed}
-use Rattle.lifted_runs_law.proofs.Objects.{same_field, sim_cell, sim_compounded, sim_counted, sim_indexed, sim_loaded, sim_pointed, sim_store}
+use Rattle.lifted_runs_law.proofs.Objects.{same_field, sim_cell, sim_compounded, sim_counted, sim_indexed, sim_loaded, sim_or_trap, sim_pointed, sim_store}
 use Rattle.lifted_runs_law.proofs.Requests.{FitsOperands, request_alike, result_of}
 
 type_is : (ty : Option VarTy) → is_number ty ≡ true → type_or_int ty ≡ Int (int_of ty)
@@ -143,7 +144,6 @@ module _ (l : Lifting) (globals variables : List VarTy) (frame : Frame) (calls :
           (each_here Has i ((far && is_operator op) && changes_int ty (Some (Int (left_type ty op)))) (conversion (int_of ty)) (Some (Int (left_type ty op))) at
           (both_hold (far && is_operator op) (changes_int ty (Some (Int (left_type ty op)))) (both_hold far (is_operator op) secret operator) is) e) (λ v. (v, refl)) h
       form false secret is = sim_bind first d f (value_of x c') (λ v. gives (converted (Int (left_type ty op)) v)) (λ v. gives (converted (Int (left_type ty op)) v)) h (λ v. sim_gives first d (converted (Int (left_type ty op)) v))
-
       go : (z : Bool) → changes_int ty (Some (Int (left_type ty op))) ≡ z →
           Sim first d (λ st. f st >>= λ v. gives (if z then converted (Int (left_type ty op)) v else v))
           (value_of (if z then typed at (Some (Int (left_type ty op))) (if far then request (callees l) i (x ∷ []) else t.convert x) else x) c')
@@ -193,22 +193,22 @@ module _ (l : Lifting) (globals variables : List VarTy) (frame : Frame) (calls :
       let has = each_here Has k (is_operator op && (far || p b)) (between op (left_type ty op) (int_of (ty_of b))) (Some is) s test own in
       let lefts = left_sim i far at ty op f (typed at ty (chain_of base xs)) operator h.alike here in
       let whole = λ (z : Span) (u : Option VarTy). sim_fit first d
-      (λ st. (f st >>= λ v. gives (taken ty op v)) >>= λ v st1. value_of b c st1 >>= λ w. cell_or_trap s (stepped (sizes_of l.tree.structs) (Int (left_type ty op)) op (cell_of v) (cell_of w)))
-      (λ st. f st >>= λ v. link_value (link s is op b) (type_or_int ty) v c) (form_value (request (callees l) k (left ∷ r ∷ [])) z u c')
-      (λ st. sym (bind_grouped (f st) (λ v. gives (taken ty op v)) (λ v st1. value_of b c st1 >>= λ w. cell_or_trap s (stepped (sizes_of l.tree.structs) (Int (left_type ty op)) op (cell_of v) (cell_of w)))
-      ∙ bind_same (f st) (λ v st1. value_of b c st1 >>= λ w. cell_or_trap s (stepped (sizes_of l.tree.structs) (Int (left_type ty op)) op (cell_of (taken ty op v)) (cell_of w))) (λ v. link_value (link s is op b) (type_or_int ty) v c)
-      (λ v st1. bind_same (value_of b c st1) (λ w. cell_or_trap s (stepped (sizes_of l.tree.structs) (Int (left_type ty op)) op (cell_of (taken ty op v)) (cell_of w))) (λ w. cell_or_trap s (stepped (sizes_of l.tree.structs) (type_or_int ty) op (cell_of v) (cell_of w)))
-      (λ w st2. ap (λ q. cell_or_trap s q st2) (same_step ty op is (ty_of b) v w operator step)))))
-      (request_two k site z u (λ st. f st >>= λ v. gives (taken ty op v)) (value_of b c) left r has (λ v w. (v, w, refl)) lefts right) in
+          (λ st. (f st >>= λ v. gives (taken ty op v)) >>= λ v st1. value_of b c st1 >>= λ w. cell_or_trap s (stepped (sizes_of l.tree.structs) (Int (left_type ty op)) op (cell_of v) (cell_of w)))
+          (λ st. f st >>= λ v. link_value (link s is op b) (type_or_int ty) v c) (form_value (request (callees l) k (left ∷ r ∷ [])) z u c')
+          (λ st. sym (bind_grouped (f st) (λ v. gives (taken ty op v)) (λ v st1. value_of b c st1 >>= λ w. cell_or_trap s (stepped (sizes_of l.tree.structs) (Int (left_type ty op)) op (cell_of v) (cell_of w)))
+          ∙ bind_same (f st) (λ v st1. value_of b c st1 >>= λ w. cell_or_trap s (stepped (sizes_of l.tree.structs) (Int (left_type ty op)) op (cell_of (taken ty op v)) (cell_of w))) (λ v. link_value (link s is op b) (type_or_int ty) v c)
+          (λ v st1. bind_same (value_of b c st1) (λ w. cell_or_trap s (stepped (sizes_of l.tree.structs) (Int (left_type ty op)) op (cell_of (taken ty op v)) (cell_of w))) (λ w. cell_or_trap s (stepped (sizes_of l.tree.structs) (type_or_int ty) op (cell_of v) (cell_of w)))
+          (λ w st2. ap (λ q. cell_or_trap s q st2) (same_step ty op is (ty_of b) v w operator step)))))
+          (request_two k site z u (λ st. f st >>= λ v. gives (taken ty op v)) (value_of b c) left r has (λ v w. (v, w, refl)) lefts right) in
       record { chained = record { alike = whole s (Some is); own = λ none. refl; after = refl }; anywhere = whole }
   link_sim i at ty far f base xs s is op b r k false test right step h here own =
       let x = link s is op r in
       let one = λ (z : Span) (u : Option VarTy). sim_fit_lifted first d (λ st. f st >>= λ v. link_value (link s is op b) (type_or_int ty) v c)
-      (λ st. form_value (chain_of base xs) at ty c' st >>= λ v. link_value x (type_or_int ty) v c') (form_value (chain_of base (xs ++ x ∷ [])) z u c')
-      (λ st. chain_pushed base xs x z at u ty c' st h.own ∙ ap (λ y. form_value (chain_of base xs) at ty c' st >>= λ v. link_value x y v c') h.after)
-      (sim_bind first d f (form_value (chain_of base xs) at ty c') (λ v. link_value (link s is op b) (type_or_int ty) v c) (λ v. link_value x (type_or_int ty) v c') h.alike
-      (λ v. sim_bind first d (value_of b c) (value_of r c') (λ w. cell_or_trap s (stepped (sizes_of l.tree.structs) (type_or_int ty) op (cell_of v) (cell_of w)))
-      (λ w. cell_or_trap s (stepped (sizes_of l.tree.structs) (type_or_int ty) op (cell_of v) (cell_of w))) right (λ w. sim_cell first d s (stepped (sizes_of l.tree.structs) (type_or_int ty) op (cell_of v) (cell_of w))))) in
+          (λ st. form_value (chain_of base xs) at ty c' st >>= λ v. link_value x (type_or_int ty) v c') (form_value (chain_of base (xs ++ x ∷ [])) z u c')
+          (λ st. chain_pushed base xs x z at u ty c' st h.own ∙ ap (λ y. form_value (chain_of base xs) at ty c' st >>= λ v. link_value x y v c') h.after)
+          (sim_bind first d f (form_value (chain_of base xs) at ty c') (λ v. link_value (link s is op b) (type_or_int ty) v c) (λ v. link_value x (type_or_int ty) v c') h.alike
+          (λ v. sim_bind first d (value_of b c) (value_of r c') (λ w. cell_or_trap s (stepped (sizes_of l.tree.structs) (type_or_int ty) op (cell_of v) (cell_of w)))
+          (λ w. cell_or_trap s (stepped (sizes_of l.tree.structs) (type_or_int ty) op (cell_of v) (cell_of w))) right (λ w. sim_cell first d s (stepped (sizes_of l.tree.structs) (type_or_int ty) op (cell_of v) (cell_of w))))) in
       record { chained = record { alike = one s (Some is); own = λ none. absurd (not_nil xs x none); after = type_pushed (type_of base) xs x }; anywhere = one }
     where
       not_nil : (xs : List LinkTree) (x : LinkTree) → xs ++ x ∷ [] ≡ [] → ⊥

@@ -1,9 +1,10 @@
 -- Parts of two runs that go in step, but for what new functions leave among the events.
-use Rattle.std.proofs.Common.{◌≡◌, ◌∙◌, ℕ, zero, suc, Bool, true, false, List, ◌++◌, refl, sym, ap, subst}
+use Rattle.std.proofs.Common.{◌≡◌, ◌∙◌, ℕ, zero, suc, Bool, true, false, List, [], ◌∷◌, ◌++◌, refl, sym, ap, subst}
 use Rattle.std.specs.Prelude.{if◌then◌else◌}
 use Rattle.pt_base.specs.declared.span.Span.{Span}
 use Rattle.pt_base.specs.declared.trap.Trap.{Trap}
-use Rattle.runs.specs.State.{Event, gives, trapped, spent, ◌>>=◌, take_turn, noted}
+use Rattle.runs.specs.State.{Event, Hosts, gives, trapped, spent, ◌>>=◌, take_turn, noted}
+use Rattle.source_meaning.specs.Memory.{Memory}
 use Rattle.source_meaning.specs.State.{State, Outcome}
 use Rattle.lifted_runs_law.specs.Noted.{own_events}
 use Rattle.lifted_runs_law.proofs.Alike.{own_append}

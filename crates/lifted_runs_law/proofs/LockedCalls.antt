@@ -1,13 +1,13 @@
 -- Calls and noted calls go in step, at each depth.
-use Rattle.std.proofs.Common.{◌≡◌, ◌∙◌, ℕ, zero, suc, Bool, true, false, Option, Some, None, List, [], ◌∷◌, ◌++◌, map, refl, sym, subst, ap, codes}
-use Rattle.std.specs.Prelude.{◌-◌, if◌then◌else◌}
+use Rattle.std.proofs.Common.{◌≡◌, ◌∙◌, ◌+◌, ℕ, zero, suc, Bool, true, false, Option, Some, None, List, [], ◌∷◌, ◌++◌, map, refl, sym, subst, ap, codes}
+use Rattle.std.specs.Prelude.{◌&&◌, ◌-◌, if◌then◌else◌}
 use Rattle.pt_base.specs.declared.ids.FnId.{FnId}
 use Rattle.pt_base.specs.declared.int_type.IntType.{IntType}
 use Rattle.pt_base.specs.declared.span.Span.{Span}
 use Rattle.pt_base.specs.declared.trap.Trap.TheVariants.{Depth, NoReturn}
 use Rattle.pt_base.proofs.Lists.{append_nil}
 use Rattle.runs.specs.Run.{deepest}
-use Rattle.runs.specs.State.{Event, gives, trapped, spent, take_turn, noted, guarded_event, out_event, put_host, answer_of}
+use Rattle.runs.specs.State.{Event, guarded, Hosts, gives, trapped, spent, ◌>>=◌, take_turn, noted, guarded_event, out_event, put_host, answer_of}
 use Rattle.typed_tree.specs.Lookup.{function_named}
 use Rattle.typed_tree.specs.TypedTree.{TypedTree}
 use Rattle.source_meaning.specs.Memory.{with_frame}
@@ -15,13 +15,13 @@ use Rattle.source_meaning.specs.State.{State, Outcome}
 use Rattle.source_meaning.specs.Values as v
 use Rattle.source_meaning.specs.Values.{Value, frame_cells, numbers_of}
 use Rattle.source_meaning.specs.Expressions.{Calls, Frame, sizes}
-use Rattle.source_meaning.specs.Statements.{Flow, broke, continues, goes_on, returned, statement}
+use Rattle.source_meaning.specs.Statements.{Code, Flow, broke, continues, goes_on, returned, statement}
 use Rattle.source_meaning.specs.Functions.{answered, at_brace, body_at, brace_of, calls_within, code_at, entered, frame_in, function_or_none, host_call, opened, result_value, returned_from, without_locals}
-use Rattle.source_meaning.specs.WholeRun.{begun, main_frame, main_run, run_of}
+use Rattle.source_meaning.specs.WholeRun.{begun, main_code, main_frame, main_run, run_of, whole_run}
 use Rattle.lifted_runs_law.specs.Laws.{NotesChangeNothing}
-use Rattle.lifted_runs_law.specs.Noted.{barred, is_new, made, noted_calls, noted_depth, noted_main, noted_turn, own_events, turn_for}
+use Rattle.lifted_runs_law.specs.Noted.{barred, is_new, made, noted_calls, noted_code, noted_depth, noted_main, noted_turn, own_events, turn_for}
 use Rattle.lifted_runs_law.proofs.Alike.{own_append}
-use Rattle.lifted_runs_law.proofs.Locked.{Lock, Locks, lock_bind, lock_change, lock_either, lock_gives, lock_noted, lock_read, lock_trapped, lock_turn}
+use Rattle.lifted_runs_law.proofs.Locked.{Beside, Lock, Locks, lock_bind, lock_change, lock_either, lock_gives, lock_noted, lock_read, lock_trapped, lock_turn}
 use Rattle.lifted_runs_law.proofs.LockedStatements.{lock_statement}
 
 module _ (first : ℕ) (program : TypedTree) where
@@ -115,7 +115,7 @@ module _ (first : ℕ) (program : TypedTree) where
       let next = λ (st1 : State). entered program (calls_within program deeper) frame f values (noted events st1) in
       let next' = λ (st1 : State). entered program (noted_calls first program deeper) frame f values (noted events st1) in
       let inside = lock_noted first events events (entered program (calls_within program deeper) frame f values) (entered program (noted_calls first program deeper) frame f values) refl
-      (lock_entered (calls_within program deeper) (noted_calls first program deeper) frame f values (lock_calls deeper)) in
+          (lock_entered (calls_within program deeper) (noted_calls first program deeper) frame f values (lock_calls deeper)) in
       lock_either first (function_or_none program f).signature.host (host_call program frame f values) (λ st. take_turn st.left st next) (host_call program frame f values) (λ st. turn_for first f st next') (lock_host frame f values)
       (record { each = λ st es own. turn_locks f st es next next' own inside (is_new first f) refl })
 

@@ -2,7 +2,7 @@
 use Rattle.std.proofs.Common.{◌+◌, ℕ, zero, suc, refl, Bool, true, false, List, [], ◌∷◌, Option, Some, None, if◌then◌else◌, get_or}
 use Rattle.pt_base.specs.declared.span.Span.{Span}
 use Rattle.pt_int.specs.Conversion.{conv}
-use Rattle.runs.specs.State.{gives, ◌>>=◌, take_turn}
+use Rattle.runs.specs.State.{gives, spent, ◌>>=◌, take_turn}
 use Rattle.typed_tree.specs.declared.ids.ExprId.{ExprId}
 use Rattle.typed_tree.specs.declared.statement.TypedInit.{TypedInit}
 use Rattle.typed_tree.specs.declared.statement.TypedInit.TheVariants as n

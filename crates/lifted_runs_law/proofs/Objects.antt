@@ -1,6 +1,6 @@
 -- Objects are read and written alike in both programs.
-use Rattle.std.proofs.Common.{◌≡◌, ◌∙◌, ◌+◌, ℕ, pos, refl, ap, sym, subst, arith, Bool, true, false, Result, Ok, Err, List, [], ◌∷◌, nat_eq}
-use Rattle.std.specs.Prelude.{if◌then◌else◌, slice_set}
+use Rattle.std.proofs.Common.{◌≡◌, ◌∙◌, ◌+◌, ◌<◌, ℕ, zero, suc, pos, refl, ap, sym, subst, arith, Bool, true, false, Option, Some, None, Result, Ok, Err, List, [], ◌∷◌, nat_eq}
+use Rattle.std.specs.Prelude.{◌&&◌, if◌then◌else◌, slice_set}
 use Rattle.std.proofs.lemmas.List.{set_past}
 use Rattle.pt_base.specs.declared.span.Span.{Span}
 use Rattle.pt_base.specs.declared.trap.Trap.{Trap}
@@ -12,7 +12,7 @@ use Rattle.typed_tree.specs.declared.types.VarTy.{VarTy}
 use Rattle.typed_tree.specs.declared.types.VarTy.TheVariants.{Int, Struct, Array, Pointer}
 use Rattle.source_meaning.specs.Memory as m
 use Rattle.source_meaning.specs.Memory.{Block, Cell, Memory, put, read, same_block, write}
-use Rattle.source_meaning.specs.State.{State}
+use Rattle.source_meaning.specs.State.{State, Outcome}
 use Rattle.source_meaning.specs.Values.{Location, Value, holds, whole, nothing, cell_of, converted_cell, moved_cell, number_of, stepped, unit_step}
 use Rattle.source_meaning.specs.Expressions.{Context, cell_or_trap, compounded, counted, decayed, dereferenced, element_of, field_at, field_of, indexed, loaded, or_trap, sizes, step_gives, store, stored_in, write_all}
 use Rattle.lifted_runs_law.proofs.Alike.{IsShallow, Sim, seen, sim_bind, sim_fit_lifted, sim_gives, sim_memory, sim_read, sim_trapped}

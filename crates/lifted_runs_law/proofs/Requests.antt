@@ -1,16 +1,20 @@
 -- What a call of a new function does: what the operator does, and nothing else that is seen.
-use Rattle.std.proofs.Common.{◌≡◌, ◌∙◌, ◌+◌, ◌<◌, inl, inr, ℕ, zero, suc, pos, refl, ap, sym, subst, arith, Bool, true, false, Some, Result, Ok, Err, List, [], ◌∷◌, ◌++◌, length, map, get_or, nat_eq}
-use Rattle.std.specs.Prelude.{ℤ, ◌-◌, ◌&&◌, ◌||◌, if◌then◌else◌, slice_get, slice_index_or, unwrap_or}
+use Rattle.std.proofs.Common.{◌≡◌, ◌∙◌, ◌+◌, ◌≤◌, ◌<◌, ◌⊎◌, inl, inr, ℕ, zero, suc, pos, refl, ap, sym, subst, arith, Bool, true, false, Option, Some, None, Result, Ok, Err, List, [], ◌∷◌, ◌++◌, length, map, get_or, nat_eq}
+use Rattle.std.specs.Prelude.{ℤ, ◌-◌, ◌&&◌, ◌||◌, not, if◌then◌else◌, nat_le, slice_get, slice_index_or, unwrap_or}
 use Rattle.std.proofs.lemmas.Bool.Decides.{nat_tests}
 use Rattle.pt_base.specs.declared.int_type.IntType.{IntType}
 use Rattle.pt_base.specs.declared.span.Span.{Span}
 use Rattle.pt_base.specs.declared.trap.Trap.{Trap}
 use Rattle.pt_base.specs.declared.trap.Trap.TheVariants.{Depth}
 use Rattle.pt_base.proofs.Lists.{append_nil}
-use Rattle.pt_base.proofs.Numbers.{nat_eq_same, nat_eq_self}
+use Rattle.pt_base.proofs.Numbers.{ nat_eq_same, nat_eq_self}
+use Rattle.pt_int.specs.declared.operator.UnOp.{UnOp}
 use Rattle.pt_tree.specs.PlainNumbers.{plain_numbers}
 use Rattle.runs.specs.State.{Event, guarded, gives, trapped, spent, ◌>>=◌, noted, guarded_event, take_turn}
+use Rattle.typed_tree.specs.declared.link.LinkStep.{LinkStep}
+use Rattle.typed_tree.specs.declared.types.VarTy.{VarTy}
 use Rattle.typed_tree.specs.declared.types.VarTy.TheVariants.{Int}
+use Rattle.typed_tree.specs.ExpressionTree.{ExprTree, typed, read, place, local, no_steps}
 use Rattle.typed_tree.specs.Sizes.{sizes_of}
 use Rattle.typed_tree.specs.TypedTree.{FunctionTree, TypedTree}
 use Rattle.source_meaning.specs.Memory as m
@@ -21,7 +25,7 @@ use Rattle.source_meaning.specs.Expressions.{Calls, Context, Frame, cell_or_trap
 use Rattle.source_meaning.specs.Statements.{Code, Flow, after_flow, goes_on, no_expr, returned, statement}
 use Rattle.source_meaning.specs.Functions.{body_or_none, brace_of, entered, frame_in, function_or_none, host_call, left_at, no_function, opened, returned_from, without_locals}
 use Rattle.lifted_trees.specs.Sites.{Operation, before, conversion, between, SiteTree}
-use Rattle.lifted_trees.specs.Lifted.{Lifting, lifted, marked_operand, marked_param, op_expr, op_function, op_signature, operand_at, operand_types}
+use Rattle.lifted_trees.specs.Lifted.{Lifting, lifted, marked_operand, marked_param, op_expr, op_function, op_signature, operand_at, operand_types, operation_form}
 use Rattle.lifted_trees.proofs.OrderLemmas.{get_or_from_get}
 use Rattle.lifted_runs_law.specs.Noted.{barred, count_if, is_barred, is_new, made, made_in, noted_calls, noted_depth, noted_turn, own_events, turn_for}
 use Rattle.lifted_runs_law.proofs.Alike.{Alike, Counts, IsShallow, barred_append, made_append, own_append, seen}
@@ -88,7 +92,7 @@ op_computes c st memory (before op a) r s vs fits types frame =
     let is = fits.1 in
     let cells : frame_cells (sizes c) c.variables vs ≡ (cell_of v ∷ []) ∷ [] = ap (λ ts. frame_cells (sizes c) ts vs) types ∙ ap (frame_cells (sizes c) (Int a ∷ [])) is in
     let there : st.memory (m.local c.frame.depth 0) ≡ cell_of v ∷ [] =
-    ap (λ mem. mem (m.local c.frame.depth 0)) frame ∙ frame_there memory c.frame.depth (frame_cells (sizes c) c.variables vs) 0 ∙ ap (λ cs. get_or cs 0 []) cells in
+        ap (λ mem. mem (m.local c.frame.depth 0)) frame ∙ frame_there memory c.frame.depth (frame_cells (sizes c) c.variables vs) 0 ∙ ap (λ cs. get_or cs 0 []) cells in
     ap (λ o. o >>= λ w. cell_or_trap s (unary_cell op (Int a) (cell_of w))) (operand_read c st s 0 a (cell_of v) (ap (λ ts. type_at ts 0) types) there)
     ∙ ap (λ ws. cell_or_trap s (result_of (sizes c) (before op a) r ws) st) (sym is)
 op_computes c st memory (conversion a) r s vs fits types frame =
@@ -96,7 +100,7 @@ op_computes c st memory (conversion a) r s vs fits types frame =
     let is = fits.1 in
     let cells : frame_cells (sizes c) c.variables vs ≡ (cell_of v ∷ []) ∷ [] = ap (λ ts. frame_cells (sizes c) ts vs) types ∙ ap (frame_cells (sizes c) (Int a ∷ [])) is in
     let there : st.memory (m.local c.frame.depth 0) ≡ cell_of v ∷ [] =
-    ap (λ mem. mem (m.local c.frame.depth 0)) frame ∙ frame_there memory c.frame.depth (frame_cells (sizes c) c.variables vs) 0 ∙ ap (λ cs. get_or cs 0 []) cells in
+        ap (λ mem. mem (m.local c.frame.depth 0)) frame ∙ frame_there memory c.frame.depth (frame_cells (sizes c) c.variables vs) 0 ∙ ap (λ cs. get_or cs 0 []) cells in
     ap (λ o. o >>= λ w. gives (converted (Int r) w)) (operand_read c st s 0 a (cell_of v) (ap (λ ts. type_at ts 0) types) there)
     ∙ ap (λ ws. cell_or_trap s (result_of (sizes c) (conversion a) r ws) st) (sym is)
 op_computes c st memory (between op a b) r s vs fits types frame =
@@ -105,9 +109,9 @@ op_computes c st memory (between op a b) r s vs fits types frame =
     let is = fits.2 in
     let cells : frame_cells (sizes c) c.variables vs ≡ (cell_of v ∷ []) ∷ (cell_of w ∷ []) ∷ [] = ap (λ ts. frame_cells (sizes c) ts vs) types ∙ ap (frame_cells (sizes c) (Int a ∷ Int b ∷ [])) is in
     let left : st.memory (m.local c.frame.depth 0) ≡ cell_of v ∷ [] =
-    ap (λ mem. mem (m.local c.frame.depth 0)) frame ∙ frame_there memory c.frame.depth (frame_cells (sizes c) c.variables vs) 0 ∙ ap (λ cs. get_or cs 0 []) cells in
+        ap (λ mem. mem (m.local c.frame.depth 0)) frame ∙ frame_there memory c.frame.depth (frame_cells (sizes c) c.variables vs) 0 ∙ ap (λ cs. get_or cs 0 []) cells in
     let right : st.memory (m.local c.frame.depth 1) ≡ cell_of w ∷ [] =
-    ap (λ mem. mem (m.local c.frame.depth 1)) frame ∙ frame_there memory c.frame.depth (frame_cells (sizes c) c.variables vs) 1 ∙ ap (λ cs. get_or cs 1 []) cells in
+        ap (λ mem. mem (m.local c.frame.depth 1)) frame ∙ frame_there memory c.frame.depth (frame_cells (sizes c) c.variables vs) 1 ∙ ap (λ cs. get_or cs 1 []) cells in
     ap (λ o. o >>= λ x st1. (value_of (operand_at s 1 b) c st1 >>= λ y. cell_or_trap s (stepped (sizes c) (Int a) op (cell_of x) (cell_of y))) >>= λ z. gives z) (operand_read c st s 0 a (cell_of v) (ap (λ ts. type_at ts 0) types) left)
     ∙ ap (λ o. (o >>= λ y. cell_or_trap s (stepped (sizes c) (Int a) op (cell_of v) (cell_of y))) >>= λ z. gives z) (operand_read c st s 1 b (cell_of w) (ap (λ ts. type_at ts 1) types) right)
     ∙ bind_end (cell_or_trap s (stepped (sizes c) (Int a) op (cell_of v) (cell_of w)) st)
@@ -191,10 +195,9 @@ module _ (l : Lifting) (n e : ℕ) (x : SiteTree)
   event_is : (active : Bool) (numbers : List ℤ) → (own_events first (guarded_event active (op_signature n x) (first + n) numbers) ≡ []) × (made_in first (guarded_event active (op_signature n x) (first + n) numbers) ≡ 0)
   event_is true numbers = (refl, refl)
   event_is false numbers =
-      let none : plain_numbers (map marked_param (operand_types x.operation)) numbers ≡ [] = no_plain (operand_types x.operation) numbers in (
-        ap (λ b. (if b then [] else guarded (first + n) (plain_numbers (map marked_param (operand_types x.operation)) numbers) ∷ []) ++ []) new_number,
-        ap (λ vs. made_in first (guarded (first + n) vs ∷ [])) none ∙ ap (λ b. count_if (b && false) + 0) new_number,
-      )
+      let none : plain_numbers (map marked_param (operand_types x.operation)) numbers ≡ [] = no_plain (operand_types x.operation) numbers in
+      (ap (λ b. (if b then [] else guarded (first + n) (plain_numbers (map marked_param (operand_types x.operation)) numbers) ∷ []) ++ []) new_number,
+       ap (λ vs. made_in first (guarded (first + n) vs ∷ [])) none ∙ ap (λ b. count_if (b && false) + 0) new_number)
 
   made_is : (own_events first (made (first + n) ∷ []) ≡ []) × (made_in first (made (first + n) ∷ []) ≡ 1)
   made_is = (ap (λ b. (if b then [] else guarded (first + n) (pos 1 ∷ []) ∷ []) ++ []) new_number, ap (λ b. count_if (b && true) + 0) new_number)

@@ -1,5 +1,5 @@
 -- Statements are alike, with raised expressions in the place of those that they name.
-use Rattle.std.proofs.Common.{◌≡◌, ◌∙◌, ◌+◌, ◌≤◌, ◌<◌, ℕ, zero, suc, inr, refl, ap, sym, subst, arith, Bool, true, false, Option, Some, None, List, [], ◌∷◌, length, map, get_or, nat_eq}
+use Rattle.std.proofs.Common.{◌≡◌, ◌∙◌, ◌+◌, ◌≤◌, ◌<◌, ℕ, zero, suc, inl, inr, refl, ap, sym, subst, arith, Bool, true, false, Option, Some, None, List, [], ◌∷◌, ◌++◌, length, map, get_or, nat_eq}
 use Rattle.std.specs.Prelude.{IsTrue, ◌&&◌, if◌then◌else◌, slice_get, option_map}
 use Rattle.pt_base.specs.declared.span.Span.{Span}
 use Rattle.pt_base.proofs.Booleans.{both_hold_first, both_hold_second}
@@ -17,25 +17,26 @@ use Rattle.typed_tree.specs.declared.types.VarTy.{VarTy}
 use Rattle.typed_tree.specs.ExpressionTree.{ExprTree}
 use Rattle.typed_tree.specs.StatementTree.{BodyTree, block, nothing, evaluate, declare, choose, while_true, do_while, for_each, give_back, stop_loop, next_turn, switch, ElseTree, no_else, otherwise, BodyTrees, no_bodies, body_and, SectionTrees, section, no_sections, section_and}
 use Rattle.typed_tree.specs.TypeTests.{both_int, integer_of, is_scalar, is_value, same_types}
-use Rattle.typed_tree.specs.WellFormedExpression.{ty_of, is_typed}
+use Rattle.typed_tree.specs.WellFormedExpression.{Names, ty_of, is_typed}
 use Rattle.typed_tree.specs.WellFormedStatement.{Scope, all_sound, any_type, declaration_fits, declarator_fits, else_sound, expr_fits, for_init_fits, found_fits, init_fits, is_sound, item_types, items_fit, labels_fit, labels_of, option_fits, promotes_to, return_fits, sections_sound}
 use Rattle.source_meaning.specs.Memory as m
 use Rattle.source_meaning.specs.Memory.{Memory, put}
 use Rattle.source_meaning.specs.State.{State, Outcome}
 use Rattle.source_meaning.specs.Values as v
 use Rattle.source_meaning.specs.Values.{Value, cleared, is_true, number_of}
-use Rattle.source_meaning.specs.Expressions.{Calls, Frame, sizes, store, type_at, value_of}
-use Rattle.source_meaning.specs.Statements.{Code, Flow, Round, after_flow, after_round, again, all_of, body_round, broke, chosen, continues, declared, for_begins, goes_on, initialised, items_stored, leaves, looped, no_expr, otherwise_of, outermost, past_switch, returned, sections_from, statement, stepped_first, tested, tested_later, variable_at}
+use Rattle.source_meaning.specs.Expressions.{Calls, Context, Frame, sizes, store, type_at, value_of}
+use Rattle.source_meaning.specs.Statements.{Code, Flow, Round, after_flow, after_round, again, all_of, body_round, broke, chosen, continues, declared, for_begins, goes_on, initialised, items_stored, leaves, looped, no_expr, otherwise_of, outermost, past_switch, returned, section_of, sections_from, statement, stepped_first, tested, tested_later, variable_at}
 use Rattle.source_meaning.proofs.Budgets.{Keeps, keeps_bind, keeps_gives, keeps_if}
 use Rattle.source_meaning.proofs.ExpressionBudgets.{CallsKeep, keeps_value}
 use Rattle.source_meaning.proofs.LoopBudgets.{keeps_falls, loop_unrolls}
 use Rattle.source_meaning.proofs.StatementBudgets.{keeps_statement}
+use Rattle.lifted_trees.specs.Sites.{sites_in}
 use Rattle.lifted_trees.specs.Lifted.{Lifting, IsOrdered, all_sites, callees, lifted, number_in, numbered_sites, op_expr, op_function, op_functions, raised, raised_from}
 use Rattle.lifted_trees.proofs.Eaches.{Each}
-use Rattle.lifted_trees.proofs.FunctionLemmas.{op_expr_there, raised_at}
+use Rattle.lifted_trees.proofs.FunctionLemmas.{IsRaisedAt, op_expr_there, raised_at}
 use Rattle.lifted_trees.proofs.OrderLemmas.{get_or_from_get, numbered_there, op_function_at}
 use Rattle.lifted_runs_law.specs.Noted.{noted_calls}
-use Rattle.lifted_runs_law.proofs.Alike.{Alike, IsShallow, Sim, alike_fit, bind_alike, counts_self, seen, sim_bind, sim_gives, sim_if, sim_memory, sim_turn, turn_alike}
+use Rattle.lifted_runs_law.proofs.Alike.{Alike, IsShallow, Sim, alike_fit, bind_alike, counts_self, seen, sim_bind, sim_fit, sim_gives, sim_if, sim_memory, sim_turn, turn_alike}
 use Rattle.lifted_runs_law.proofs.Expressions.{HasOp, value_sim}
 use Rattle.lifted_runs_law.proofs.Objects.{sim_store}
 
@@ -46,13 +47,10 @@ ops_there l o j x h = subst (λ k. HasOp l k x) (sym plain) (record { expr = len
   where
     k : ℕ
     k = number_in l.order j
-
     plain : 0 + j ≡ j
     plain = omega arith
-
     listed : slice_get (numbered_sites l) (number_in l.order j) ≡ Some x
     listed = numbered_there l o j x h
-
     function : slice_get (lifted l).functions (length l.tree.functions + number_in l.order j) ≡ Some (op_function (number_in l.order j) (length l.tree.exprs + (0 + number_in l.order j)) x)
     function =
         let same : 0 + number_in l.order j ≡ number_in l.order j = omega arith in

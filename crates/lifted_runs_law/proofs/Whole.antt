@@ -1,14 +1,15 @@
 -- Whole runs are alike.
-use Rattle.std.proofs.Common.{◌≡◌, ◌∙◌, ◌+◌, ◌-◌, ◌<◌, ℕ, suc, pos, inl, inr, refl, ap, sym, subst, arith, Bool, true, false, Option, Some, None, List, [], ◌∷◌, ◌++◌, length, map, codes}
-use Rattle.std.specs.Prelude.{IsTrue, if◌then◌else◌}
+use Rattle.std.proofs.Common.{◌≡◌, ◌∙◌, ◌+◌, ◌-◌, ◌≤◌, ◌<◌, ℕ, zero, suc, pos, inl, inr, refl, ap, sym, subst, arith, Bool, true, false, Option, Some, None, List, [], ◌∷◌, ◌++◌, length, map, get_or, nat_eq, codes}
+use Rattle.std.specs.Prelude.{IsTrue, ◌⊎◌, if◌then◌else◌, slice_get}
 use Rattle.std.specs.Str.{bytes_eq}
+use Rattle.pt_base.specs.declared.end.End.{End}
 use Rattle.pt_base.specs.declared.end.End.TheVariants.{Exit, Trapped, Spent}
 use Rattle.pt_base.specs.declared.ids.FnId.{FnId}
 use Rattle.pt_base.specs.declared.int_type.IntType.TheVariants as i
 use Rattle.pt_base.proofs.Options.{some_same}
 use Rattle.pt_base.proofs.Places.{get_there}
 use Rattle.pt_int.specs.Conversion.{conv}
-use Rattle.runs.specs.Run.{deepest}
+use Rattle.runs.specs.Run.{Run, deepest}
 use Rattle.runs.specs.State.{Hosts, gives, trapped, spent}
 use Rattle.typed_tree.specs.declared.variable.TypedGlobal.{TypedGlobal}
 use Rattle.typed_tree.specs.Lookup.{function_named, named_from}
@@ -20,13 +21,13 @@ use Rattle.source_meaning.specs.State.{State, Outcome}
 use Rattle.source_meaning.specs.Values.{frame_cells, number_of}
 use Rattle.source_meaning.specs.Expressions.{Calls, sizes}
 use Rattle.source_meaning.specs.Statements.{Code, Flow, broke, continues, goes_on, returned, statement}
-use Rattle.source_meaning.specs.Functions.{body_or_none, calls_within, function_or_none, opened}
-use Rattle.source_meaning.specs.WholeRun.{begun, main_frame, main_run, run_of, whole_run, with_globals}
+use Rattle.source_meaning.specs.Functions.{body_or_none, calls_within, function_or_none, no_function, opened}
+use Rattle.source_meaning.specs.WholeRun.{begun, main_code, main_frame, main_run, run_of, whole_run, with_globals}
 use Rattle.source_meaning.proofs.CallBudgets.{keeps_calls}
 use Rattle.lifted_trees.specs.Sites.{SiteTree}
 use Rattle.lifted_trees.specs.Lifted.{Lifting, IsOrdered, lifted, numbered_sites, op_functions}
 use Rattle.lifted_runs_law.specs.Laws.{LiftingChangesNothingElse, own_run}
-use Rattle.lifted_runs_law.specs.Noted.{is_barred, made_in, noted_calls, noted_main, noted_run, own_events}
+use Rattle.lifted_runs_law.specs.Noted.{is_barred, made_in, noted_calls, noted_code, noted_main, noted_run, own_events}
 use Rattle.lifted_runs_law.proofs.Alike.{Alike, IsShallow, moved_alike, seen, sim_gives}
 use Rattle.lifted_runs_law.proofs.Calls.{body_is_alike, calls_sim, found_there, same_function, shallow_opened}
 
