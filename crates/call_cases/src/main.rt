@@ -3,6 +3,7 @@
 #![tactic(auto)]
 
 mod calls;
+mod eager;
 mod failures;
 mod files;
 mod locals;

@@ -94,11 +94,7 @@ impl Outside {
     ///
     /// Want of memory.
     pub fn push_ending(&self, told: &mut String, status: u8) -> Result<(), AllocError> {
-        write!(told, "\n  status {status}, out \"")?;
-        push_bytes(told, self.out.bytes())?;
-        told.push_str("\", report \"")?;
-        push_bytes(told, self.report.bytes())?;
-        told.push('"')
+        push_ending(told, status, self.out.bytes(), self.report.bytes())
     }
 
     /// Appends how often the other process was started, and how often it was taken over as the parent.
@@ -130,6 +126,24 @@ impl Outside {
             }
         }
     }
+}
+
+/// Appends a call's status, and what came to out and to the report.
+///
+/// # Errors
+///
+/// Want of memory.
+pub fn push_ending(
+    told: &mut String,
+    status: u8,
+    out: &[u8],
+    report: &[u8],
+) -> Result<(), AllocError> {
+    write!(told, "\n  status {status}, out \"")?;
+    push_bytes(told, out)?;
+    told.push_str("\", report \"")?;
+    push_bytes(told, report)?;
+    told.push('"')
 }
 
 fn listed(alloc: Global, number: Option<u64>) -> Result<Vec<u64>, AllocError> {

@@ -1,5 +1,6 @@
 // The files that rows have set, and what each row shows.
 use crate::calls::{begun, call, check, linked, original, split};
+use crate::eager::eager;
 use crate::failures::failures;
 use crate::files::Files;
 use crate::locals::{local, orders};
@@ -58,6 +59,7 @@ impl<'a, R: rt::Files + Processes + AllocGlobal, I: Read + Drop + Copy, O: AsFd 
             "run" => call(rt, alloc, &mut self.files, rest),
             "linked" => linked(rt, alloc, &mut self.files, rest),
             "begun" => begun(rt, alloc, &mut self.files, rest),
+            "eager" => eager(rt, alloc, &self.files, rest),
             "local" => local(rt, alloc, &mut self.files, rest),
             "orders" => orders(rt, alloc, &mut self.files, rest),
             "turns" => turns(rt, alloc, &mut self.files, rest),

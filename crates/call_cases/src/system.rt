@@ -1,12 +1,13 @@
 // The whole tool over the files of the system, with a child that is a shell, a file of its own, or nothing.
 use crate::calls::words_of;
+use crate::outside::push_ending;
 use anyhow::{Result, bail};
 use case_rows::{Silent, first_word, push_bytes, spelled};
 use honest_link::Witness;
 use privtrans_app::privtrans;
 use process_link::{Child, RealFolder};
 use pt_base::{Alternate, ByteSink};
-use std::alloc::{AllocError, Global};
+use std::alloc::Global;
 use std::fs;
 use std::io::Read;
 use std::os::fd::AsFd;
@@ -109,12 +110,4 @@ impl<'a, R: Files + Processes + AllocGlobal, I: Read + Drop + Copy, O: AsFd + Dr
         told.push('"')?;
         Ok(told)
     }
-}
-
-fn push_ending(told: &mut String, status: u8, out: &[u8], report: &[u8]) -> Result<(), AllocError> {
-    write!(told, "\n  status {status}, out \"")?;
-    push_bytes(told, out)?;
-    told.push_str("\", report \"")?;
-    push_bytes(told, report)?;
-    told.push('"')
 }

@@ -37,7 +37,7 @@ whole_frame m rest read =
     ∙ ap (option_map (λ m. (m, drop (length p) tail))) read.again
     ∙ ap (λ rest. Some (m, rest)) (drop_at p rest (length p) refl)
 
-frame_is : (m : Message) (rest : List ℕ) → IsRead m → frame_at (spelling m ++ rest) ≡ Some (m, rest)
+pub frame_is : (m : Message) (rest : List ℕ) → IsRead m → frame_at (spelling m ++ rest) ≡ Some (m, rest)
 frame_is m rest read =
     let short : length (payload m) ≤ longest_payload = read.short in
     ap frame_at (append_assoc (four_bytes (length (payload m))) (payload m) rest)
@@ -49,15 +49,15 @@ frame_is m rest read =
 abbrev pub cut_to : List Message → List ℕ → Cut
 cut_to messages rest = record { messages = messages; rest = rest }
 
-cut_none : (n : ℕ) → cut_within n [] ≡ cut_to [] []
+pub cut_none : (n : ℕ) → cut_within n [] ≡ cut_to [] []
 cut_none zero = refl
 cut_none (suc n) = refl
 
-four_at_least : (m : Message) (n : ℕ) (rest : List ℕ) → length (spelling m ++ rest) ≤ suc n → length rest ≤ n
+pub four_at_least : (m : Message) (n : ℕ) (rest : List ℕ) → length (spelling m ++ rest) ≤ suc n → length rest ≤ n
 four_at_least m n rest few =
     omega (arith, few, length-append (spelling m) rest, length-append (four_bytes (length (payload m))) (payload m), length-four_bytes (length (payload m)))
 
-none_fit : (m : Message) (rest : List ℕ) → length (spelling m ++ rest) ≤ 0 → ⊥
+pub none_fit : (m : Message) (rest : List ℕ) → length (spelling m ++ rest) ≤ 0 → ⊥
 none_fit m rest few =
     omega (arith, few, length-append (spelling m) rest, length-append (four_bytes (length (payload m))) (payload m), length-four_bytes (length (payload m)))
 
@@ -73,7 +73,7 @@ cut_is ms reads = cut_all (length (flat_map spelling ms)) ms reads (omega arith)
 
 -- ---- a boot
 
-abbrev boot_message : List ℕ → Message
+abbrev pub boot_message : List ℕ → Message
 boot_message piece = message.Boot piece
 
 abbrev pub boot_messages : List ℕ → List Message
@@ -109,13 +109,13 @@ with_last : (pieces : List (List ℕ)) → AllByRecursion IsShort pieces → All
 with_last [] short = (omega arith, tt {0})
 with_last (piece ∷ pieces) short = (short.0, with_last pieces short.1)
 
-boot_read : (bytes : List ℕ) → AllByRecursion IsRead (boot_messages bytes)
+pub boot_read : (bytes : List ℕ) → AllByRecursion IsRead (boot_messages bytes)
 boot_read bytes = pieces_read (boot_pieces bytes) (with_last (pieces_within (length bytes) bytes) (all_short (length bytes) bytes (omega arith)))
 
-boot_is : (bytes : List ℕ) → boot_frames bytes ≡ flat_map spelling (boot_messages bytes)
+pub boot_is : (bytes : List ℕ) → boot_frames bytes ≡ flat_map spelling (boot_messages bytes)
 boot_is bytes = sym (flat_map-map spelling boot_message (boot_pieces bytes))
 
-no_reply : (pieces : List (List ℕ)) → flat_map reply_in (map boot_message pieces) ≡ []
+pub no_reply : (pieces : List (List ℕ)) → flat_map reply_in (map boot_message pieces) ≡ []
 no_reply [] = refl
 no_reply (piece ∷ pieces) = no_reply pieces
 

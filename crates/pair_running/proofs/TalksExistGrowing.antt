@@ -17,15 +17,15 @@ use Rattle.pair_meaning.specs.Pair.{said}
 use Rattle.pair_meaning.specs.Peer.{cut, cut_by, cut_within, frame_at, framed, framed_by, replies_in, reply_in, says}
 use Rattle.pair_laws.specs.AwaitedRepliesLaws.{WhatIsSaidGrows}
 
-none_some : {A B : Type 0} (x : B) → None ≡ Some x → A
+pub none_some : {A B : Type 0} (x : B) → None ≡ Some x → A
 none_some x e = cc
 
 -- ---- a frame
 
-abbrev with_rest : List ℕ → Option Message → Option (Message × List ℕ)
+abbrev pub with_rest : List ℕ → Option Message → Option (Message × List ℕ)
 with_rest rest o = option_map (λ m. (m, rest)) o
 
-abbrev framed_if : Bool → List ℕ → List ℕ → Option (Message × List ℕ)
+abbrev pub framed_if : Bool → List ℕ → List ℕ → Option (Message × List ℕ)
 framed_if over body rest = if over then None else with_rest rest (payload_of body)
 
 whole_framed : (size : ℕ) (rest more : List ℕ) → size ≤ longest_payload → size ≤ length rest → framed size (rest ++ more) ≡ with_rest (drop size rest ++ more) (payload_of (take size rest))
@@ -66,10 +66,10 @@ frame_more bytes more m left e = go (nat_lt (length bytes) 4) refl e
 -- ---- all messages
 
 -- the first list begins the second
-abbrev Begins : List Message → List Message → Type 0
+abbrev pub Begins : List Message → List Message → Type 0
 Begins xs ys = (rest : List Message) × (ys ≡ xs ++ rest)
 
-cut_more : (n k : ℕ) (bytes more : List ℕ) → n ≤ k → Begins (cut_within n bytes).messages (cut_within k (bytes ++ more)).messages
+pub cut_more : (n k : ℕ) (bytes more : List ℕ) → n ≤ k → Begins (cut_within n bytes).messages (cut_within k (bytes ++ more)).messages
 cut_more zero k bytes more le = ((cut_within k (bytes ++ more)).messages, refl)
 cut_more (suc n) zero bytes more le = absurd (omega (arith, le))
 cut_more (suc n) (suc k) bytes more le = go (λ left. cut_more n k left more (omega (arith, le))) (frame_at bytes) refl

@@ -12,7 +12,7 @@ mod ProcessLemmas
 mod ReadingLemmas
 mod SeenLemmas
 mod ShowingLemmas
-mod SessionLemmas
+mod SlaveEnds
 mod SlaveLemmas
 mod SplitLemmas
 mod Statuses

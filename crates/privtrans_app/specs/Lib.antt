@@ -12,7 +12,7 @@ pub mod Outside
 pub mod ProcessRun
 pub mod Reading
 pub mod Showing
-pub mod Sessions
+pub mod SlaveComplete
 pub mod SlaveRun
 pub mod SplitRun
 pub mod Told

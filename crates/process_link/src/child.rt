@@ -1,6 +1,8 @@
 // A child process as a spawner, and the parent as a link.
-ghost use Rattle.std.specs.Prelude.{◌≡◌, ◌≤◌, IfOk, IsTrue, None, false, suc, vec_len};
+ghost use Rattle.std.specs.Prelude.{[], ◌≡◌, ◌≤◌, IfOk, IsTrue, None, false, length, suc, vec_len};
+ghost use Rattle.std.specs.Io.KnownBytes.{Consumes, IsAtEnd};
 ghost use Rattle.pt_base.specs.Faults.{Rose};
+ghost use Rattle.process_link.specs.Ends.{remaining_of};
 ghost use Rattle.pt_base.specs.declared.link.LinkFault.TheVariants.{Failed, Memory};
 
 use crate::output::Output;
@@ -119,14 +121,17 @@ fn started<R: Processes>(
     command.spawn(rt)
 }
 
-// Some bytes, at most `max`, by way of the buffer. A call that a signal cut off is made again.
-fn receive_some(
-    input: &mut impl Read,
+// The next bytes, at most `max`, by way of the buffer; none only at the end, or where there is no room. A call that a signal
+// cut off is made again.
+fn receive_some<I: Read>(
+    input: &mut I,
     alloc: Global,
     buffer: &mut [u8],
     max: usize,
 ) -> io::Result<Vec<u8>>
-    ensures { IfOk result (λ v. vec_len v ≤ max) }
+    ensures length { IfOk result (λ v. vec_len v ≤ max) }
+    ensures content { IfOk result (λ v. Consumes (I.remaining input.old) (I.remaining input.new) v.items) }
+    ensures end { IfOk result (λ v. v.items ≡ [] → 1 ≤ max → 1 ≤ length buffer.old → IsAtEnd (I.remaining input.new)) }
 {
     let want = max.min(buffer.len());
     for _ in 0..u64::MAX {
@@ -155,7 +160,9 @@ impl<P: OpenProcess + Drop, I: Read + Drop> Ends<P, I> {
     }
 
     fn receive(&mut self, alloc: Global, buffer: &mut [u8], max: usize) -> io::Result<Vec<u8>>
-        ensures { IfOk result (λ v. vec_len v ≤ max) }
+        ensures length { IfOk result (λ v. vec_len v ≤ max) }
+        ensures content { IfOk result (λ v. Consumes (remaining_of I.remaining self.old) (remaining_of I.remaining self.new) v.items) }
+        ensures end { IfOk result (λ v. v.items ≡ [] → 1 ≤ max → 1 ≤ length buffer.old → IsAtEnd (remaining_of I.remaining self.new)) }
     {
         match self {
             Ends::Nothing => Err(io::Error::from(ErrorKind::NotConnected)),

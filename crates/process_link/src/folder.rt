@@ -1,5 +1,6 @@
 // The files of the system. It tells nothing of what they hold.
-ghost use Rattle.std.specs.Prelude.{◌≡◌, None, ◌≤◌, vec_len, IfOk};
+ghost use Rattle.std.specs.Prelude.{◌≡◌, None, ◌≤◌, ◌<◌, vec_len, IfOk};
+ghost use Rattle.std.specs.Io.KnownBytes.{Consumes, IsAtEnd};
 
 use pt_base::{Folder, FolderFault};
 use std::alloc::Global;
@@ -38,19 +39,21 @@ fn fault_of(e: &io::Error) -> FolderFault {
     }
 }
 
-// At most `limit` bytes.
-fn read_most(file: &mut impl Read, alloc: Global, limit: usize) -> Result<Vec<u8>, FolderFault>
-    ensures { IfOk result (λ v. vec_len v ≤ limit) }
+// The next bytes, `limit` of them, or fewer where the file ends before. A call that a signal cut off is made again.
+fn read_most<F: Read>(file: &mut F, alloc: Global, limit: usize) -> Result<Vec<u8>, FolderFault>
+    ensures length { IfOk result (λ v. vec_len v ≤ limit) }
+    ensures content { IfOk result (λ v. Consumes (F.remaining file.old) (F.remaining file.new) v.items) }
+    ensures whole { IfOk result (λ v. vec_len v < limit → IsAtEnd (F.remaining file.new)) }
 {
     let mut bytes = Vec::new(alloc);
     let mut piece = [0u8; 4096];
     for _ in 0..u64::MAX {
         let want = (limit - bytes.len()).min(piece.len());
         if want == 0 {
-            break;
+            return Ok(bytes);
         }
         match file.read(&mut piece[..want]) {
-            Ok(0) => break,
+            Ok(0) => return Ok(bytes),
             Ok(n) => bytes.extend_from_slice(&piece[..n])?,
             Err(e) => {
                 if e.kind() != ErrorKind::Interrupted {
@@ -59,7 +62,7 @@ fn read_most(file: &mut impl Read, alloc: Global, limit: usize) -> Result<Vec<u8
             }
         }
     }
-    Ok(bytes)
+    Err(FolderFault::Failed)
 }
 
 impl<R: Files> Folder for RealFolder<R> {

@@ -1,0 +1,4 @@
+pub mod Honest
+pub mod Peers
+pub mod Plays
+pub mod PlaysLaws
