@@ -36,7 +36,8 @@ use wire::{ReplyBody, WireCell};
 /// Each block that an argument points into has as many types as cells, and at most 65,536; and the
 /// handles of a reply don't bring those given over 2^63. A reply that the call can't have is
 /// `Shape`. After that, and after want of memory, no handle is given. Memory can't be wanting where
-/// no argument points into a block. Each block has as many cells in the answer as in the memory.
+/// no argument points into a block, and then the answer has no block. Each block has as many cells in the
+/// answer as in the memory.
 pub fn unpack_results(
     alloc: Global,
     names: &mut Names,
@@ -54,6 +55,7 @@ pub fn unpack_results(
         (after_reply names.old (blocks_of memory.now) structs.now sig.now args.now reply.now) names.old names.new
         (blocks_of memory.now) }
     ensures long { IfOk result (λ r. AreAsLong (blocks_of memory.now) r.blocks.items) }
+    ensures none { list_any points args.now ≡ false → IfOk result (λ r. r.blocks.items ≡ []) }
     ensures sure { result ≡ Err Memory → list_any points args.now ≡ true }
 {
     if !any_points(args) {

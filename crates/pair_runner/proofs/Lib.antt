@@ -1,8 +1,10 @@
+pub mod Breaking
 pub mod Causes
 pub mod Counting
 pub mod Finishing
 pub mod Frames
 pub mod Handled
+pub mod InTurn
 pub mod Looping
 pub mod Messages
 pub mod Moving

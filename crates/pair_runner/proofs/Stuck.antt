@@ -5,13 +5,12 @@ use Rattle.pt_base.specs.declared.link.LinkFault.{LinkFault}
 use Rattle.pt_base.specs.declared.link.LinkFault.TheVariants as link
 use Rattle.pt_base.specs.declared.sink.SinkFault.{SinkFault}
 use Rattle.pt_base.specs.declared.sink.SinkFault.TheVariants as sink
-use Rattle.pt_base.specs.Talk.{Event, gave}
 use Rattle.pair_runner.specs.declared.fault.RunFault.{RunFault}
 use Rattle.pair_runner.specs.declared.fault.RunFault.TheVariants.{LinkFailed, SinkFailed, BadPeer, PeerEnded, Memory}
 use Rattle.pair_runner.specs.Faults.{of_link, of_sink}
-use Rattle.pair_runner.specs.Sending.{Talks, Parts, Moves, Breaks}
-use Rattle.pair_runner.specs.Turns.{Stuck, Unfed}
-use Rattle.pair_runner.proofs.Moving.{parts_none, moves_by_talk, breaks_by_parts}
+use Rattle.pair_runner.specs.Sending.{Breaks}
+use Rattle.pair_runner.specs.Turns.{Stuck}
+use Rattle.pair_runner.proofs.Moving.{parts_none, breaks_by_parts}
 
 pub stuck_link : (f : LinkFault) (P : Type 0) → P → Stuck (of_link f) P
 stuck_link link.Failed P h = h
@@ -24,15 +23,6 @@ stuck_sink sink.Memory P h = h
 -- nothing is done
 pub breaks_none : {L K : Type 0} (sent given : L → Option (List ℕ)) (taken : K → Option (List ℕ)) (a : L) (k : K) (s o : List ℕ) → Breaks sent given taken a a k k [] s o
 breaks_none sent given taken a k s o = breaks_by_parts sent given taken a a k [] s o (parts_none sent given a a s (Keeps-refl (sent a)) (Keeps-refl (given a)))
-
--- the sink isn't concerned
-pub unfed_moves : {L K : Type 0} (came : L → List Event → L → Type 0) (sent given : L → Option (List ℕ)) (taken : K → Option (List ℕ)) (a b : L) (k : K) (e : RunFault) →
-    Unfed (λ talk bytes. Talks came sent given a b talk) (λ g s o. Parts sent given a b g s) e → Unfed (Moves came sent given taken a b k k) (Breaks sent given taken a b k k) e
-unfed_moves came sent given taken a b k LinkFailed h = breaks_by_parts sent given taken a b k [] [] [] h
-unfed_moves came sent given taken a b k SinkFailed h = absurd h
-unfed_moves came sent given taken a b k (BadPeer number offset) h = absurd h
-unfed_moves came sent given taken a b k PeerEnded h = moves_by_talk came sent given taken a b k (gave [] ∷ []) h
-unfed_moves came sent given taken a b k Memory (piece, fits, small, h) = (piece, fits, small, breaks_by_parts sent given taken a b k piece [] [] h)
 
 -- whatever the result is
 pub on_err : {T E : Type 0} (r : Result T E) (P : Type 0) → P → OnErr r P

@@ -1,4 +1,5 @@
 pub mod Bounds
+pub mod Breaking
 pub mod Faults
 pub mod Laws
 pub mod Outcomes

@@ -1,7 +1,7 @@
 -- What goes over a link and to a sink.
-use Rattle.std.specs.Prelude.{ℕ, List, [], ◌∷◌, ◌++◌, Option, map}
+use Rattle.std.specs.Prelude.{◌⊎◌, ℕ, List, [], ◌∷◌, ◌++◌, Option, map}
 use Rattle.std.specs.List.{flat_map}
-use Rattle.std.specs.Io.KnownBytes.{Appends}
+use Rattle.std.specs.Io.KnownBytes.{Appends, Keeps}
 use Rattle.pt_base.specs.Talk.{Event, gave, took}
 use Rattle.pt_base.specs.Told.{AppendsPart}
 use Rattle.wire.specs.declared.message.Message.TheVariants as message
@@ -78,3 +78,8 @@ pub record Moves {L K : Type 0} (came : L → List Event → L → Type 0) (sent
 pub record Breaks {L K : Type 0} (sent given : L → Option (List ℕ)) (taken : K → Option (List ℕ)) (link link' : L) (sink sink' : K) (given_bytes sent_bytes bytes : List ℕ) : Type 0 where
   pub parts : Parts sent given link link' given_bytes sent_bytes
   pub writes : AppendsPart (taken sink) (taken sink') bytes
+
+-- it broke off in turn: nothing was sent unless all was written
+pub record BreaksInTurn {L K : Type 0} (sent given : L → Option (List ℕ)) (taken : K → Option (List ℕ)) (link link' : L) (sink sink' : K) (given_bytes sent_bytes bytes : List ℕ) : Type 0 where
+  pub broke : Breaks sent given taken link link' sink sink' given_bytes sent_bytes bytes
+  pub order : Keeps (sent link) (sent link') ⊎ Appends (taken sink) (taken sink') bytes

@@ -8,7 +8,7 @@ ghost use Rattle.pair_meaning.specs.Monitors as s;
 ghost use Rattle.pair_meaning.specs.Serving.{serve};
 ghost use Rattle.pair_protocol.specs.SlaveRun.{listed};
 ghost use Rattle.pair_runner.specs.Faults.{FirstFault};
-ghost use Rattle.pair_runner.specs.Sending.{Breaks, IsSpelled, Moves, Parts, Talks, reply_frames, sent_of};
+ghost use Rattle.pair_runner.specs.Sending.{BreaksInTurn, IsSpelled, Moves, Parts, Talks, reply_frames, sent_of};
 ghost use Rattle.pair_runner.specs.Turns.{Answered, Fed, Stuck, Turned, Unfed};
 ghost use Rattle.std.specs.Io.KnownBytes.{Appends};
 ghost use Rattle.pt_base.specs.Told.{AppendsPart};
@@ -49,7 +49,7 @@ fn give_back<L: Link, K: Sink>(
     requires keeps { IfSome reply (λ r. KeepsLimits (Reply r)) }
     ensures ok { OnOk result (Moves L.came L.sent L.given K.taken link.old link.new sink.old sink.new (sent_of reply) bytes.now) }
     ensures spelled { OnOk result (IfSome reply IsSpelled) }
-    ensures err { IfErr result (λ e. Stuck e (Breaks L.sent L.given K.taken link.old link.new sink.old sink.new [] (reply_frames (listed reply)) bytes.now)) }
+    ensures err { IfErr result (λ e. Stuck e (BreaksInTurn L.sent L.given K.taken link.old link.new sink.old sink.new [] (reply_frames (listed reply)) bytes.now)) }
     ensures behind { IsErrOf result RunFault.SinkFailed → link.new ≡ link.old }
     ensures written { IsErrOf result RunFault.LinkFailed → Appends (K.taken sink.old) (K.taken sink.new) bytes.now }
     ensures ready { L.ready link.new }
@@ -75,7 +75,7 @@ fn serve_message<L: Link, K: Sink>(
     requires monitor { (m : s.Monitor) × IsMonitor monitor.old m }
     requires counts { KeepsCounts message.now }
     ensures answered { (m : s.Monitor) → IsMonitor monitor.old m
-        → Answered (Moves L.came L.sent L.given K.taken link.old link.new sink.old sink.new) (Breaks L.sent L.given K.taken link.old link.new sink.old sink.new)
+        → Answered (Moves L.came L.sent L.given K.taken link.old link.new sink.old sink.new) (BreaksInTurn L.sent L.given K.taken link.old link.new sink.old sink.new)
         (IsMonitor monitor.new) offset (serve m message.now) result }
     ensures behind { IsErrOf result RunFault.SinkFailed → link.new ≡ link.old }
     ensures ready { L.ready link.new }
@@ -132,7 +132,7 @@ pub(crate) fn turn<L: Link, K: Sink>(
     requires monitor { (m : s.Monitor) × IsMonitor monitor.old m }
     requires sound { reader.old.fault ≡ None }
     ensures turned { (m : s.Monitor) → IsMonitor monitor.old m
-        → Turned (Moves L.came L.sent L.given K.taken link.old link.new sink.old sink.new) (Breaks L.sent L.given K.taken link.old link.new sink.old sink.new)
+        → Turned (Moves L.came L.sent L.given K.taken link.old link.new sink.old sink.new) (BreaksInTurn L.sent L.given K.taken link.old link.new sink.old sink.new)
         (IsMonitor monitor.new) m reader.old reader.new result }
     ensures behind { IsErrOf result RunFault.SinkFailed → link.new ≡ link.old }
     ensures ready { L.ready link.new }

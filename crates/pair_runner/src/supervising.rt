@@ -3,6 +3,7 @@ ghost use Rattle.std.specs.Prelude.{◌≡◌, None};
 ghost use Rattle.pt_base.specs.Faults.{HasCause};
 ghost use Rattle.monitor_interp.specs.Monitors.{IsMonitor};
 ghost use Rattle.pair_meaning.specs.Monitors as s;
+ghost use Rattle.pair_runner.specs.Breaking.{Broke, BrokeBehind, IfBroken, at_once};
 ghost use Rattle.pair_runner.specs.Faults.{FirstFault};
 ghost use Rattle.pair_runner.specs.Outcomes.{IsOutcome, behind_boot, broken_behind_boot};
 ghost use Rattle.pair_runner.specs.Sending.{Breaks, Moves};
@@ -26,6 +27,7 @@ fn serve_peer<L: Link, K: Sink>(
     requires monitor { (m : s.Monitor) × IsMonitor monitor.old m }
     ensures outcome { (m : s.Monitor) → IsMonitor monitor.old m
         → IsOutcome (Moves L.came L.sent L.given K.taken link.old link.new sink.old sink.new) (Breaks L.sent L.given K.taken link.old link.new sink.old sink.new) m result }
+    ensures in_turn { (m : s.Monitor) → IsMonitor monitor.old m → IfBroken result (Broke L.came L.sent L.given K.taken at_once link.old link.new sink.old sink.new m) }
     ensures ready { L.ready link.new }
     ensures link { HasCause (L.faults link.old) (L.faults link.new) result RunFault.LinkFailed RunFault.Memory }
     ensures sink { HasCause (K.faults sink.old) (K.faults sink.new) result RunFault.SinkFailed RunFault.Memory }
@@ -49,7 +51,8 @@ fn serve_peer<L: Link, K: Sink>(
 ///
 /// `BadPeer` where these frames break a rule, and `PeerEnded` where they don't come to an end. `LinkFailed` and
 /// `SinkFailed` come only where the count of faults rose; after these two, and after `Memory`, a first part was
-/// written and sent. Of the calls of the link and the sink one at most fails, and none where it comes to an end, memory
+/// written and sent: so many messages were served whole, and of what the next one brings a first part was written,
+/// and nothing of its reply sent unless all of that was. Of the calls of the link and the sink one at most fails, and none where it comes to an end, memory
 /// runs out or the peer is to blame.
 pub fn supervise<L: Link, K: Sink>(
     alloc: Global,
@@ -63,6 +66,7 @@ pub fn supervise<L: Link, K: Sink>(
     ensures outcome { (m : s.Monitor) → IsMonitor monitor.old m
         → IsOutcome (behind_boot (Moves L.came L.sent L.given K.taken link.old link.new sink.old sink.new) boot.now)
         (broken_behind_boot (Breaks L.sent L.given K.taken link.old link.new sink.old sink.new) boot.now) m result }
+    ensures in_turn { (m : s.Monitor) → IsMonitor monitor.old m → IfBroken result (BrokeBehind L.came L.sent L.given K.taken boot.now link.old link.new sink.old sink.new m) }
     ensures ready { L.ready link.new }
     ensures link { HasCause (L.faults link.old) (L.faults link.new) result RunFault.LinkFailed RunFault.Memory }
     ensures sink { HasCause (K.faults sink.old) (K.faults sink.new) result RunFault.SinkFailed RunFault.Memory }

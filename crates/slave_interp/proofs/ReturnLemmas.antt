@@ -1,5 +1,5 @@
 -- Cells that come back, block by block.
-use Rattle.std.proofs.Common.{◌≡◌, ◌∙◌, ◌<◌, refl, ap, arith, sym, subst, List, [], ◌∷◌, Bool, true, false, drop, get_or, length}
+use Rattle.std.proofs.Common.{◌≡◌, ◌∙◌, ◌<◌, refl, ap, arith, sym, subst, List, [], ◌∷◌, Bool, true, false, drop, get_or, length, ◌==◌}
 use Rattle.std.specs.Prelude.{if◌then◌else◌}
 use Rattle.std.proofs.Math.Logic.{∥∥₁_elim, ∥∥₁_prop}
 use Rattle.pt_base.proofs.Numbers.{equal_is_prop}
@@ -78,3 +78,12 @@ long_next x (a ∷ left) b some is may = first_long x b left (subst (λ k. MayRe
 pub putting_past : (start : Machine) (blocks : List ReturnedBlock) (x : Machine) (left : List ReturnedBlock) → length left < 1 → Putting start blocks x left → (program : ProgramTree) (m : s.Machine) → Shown program start m → Shown program x (s.with_blocks (with_cells blocks m.blocks) m)
 putting_past start blocks x [] few is = putting_end start blocks x is
 putting_past start blocks x (b ∷ left) few is = absurd (omega (arith, few))
+
+-- no block is left
+pub none_left : {A : Type 0} (xs : List A) {empty : Bool} → empty ≡ (length xs == 0) → empty ≡ true → xs ≡ []
+none_left [] is e = refl
+none_left (x ∷ xs) is e = cc
+
+pub unless_false : (b : Bool) → (b ≡ false → ⊥) → b ≡ true
+unless_false true no = refl
+unless_false false no = absurd (no refl)

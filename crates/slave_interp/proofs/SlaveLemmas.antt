@@ -203,6 +203,10 @@ takes_at e end d callee args reply same takes from is =
       },
     )
 
+-- what it waits for
+pub waits_for_it : (e : Engine) (d : Doing) (callee : FnId) (args : Vec Cell Global) (from : s.Slave) → d ≡ Waits callee args → IsAt e d from → WaitsFor from callee.0 args.items
+waits_for_it e d callee args from same is = waits_by e callee args from (subst (λ k. IsAt e k from) same is)
+
 -- ... and then it is some slave
 pub took_somewhere : (e end : Engine) (d : Doing) (callee : FnId) (args : Vec Cell Global) (reply : ReplyBody) → d ≡ Waits callee args → TakesIn e end callee.0 args.items reply → IsSomewhere e d → IsSomewhere end Goes
 took_somewhere e end d callee args reply same takes there = ∥∥₁_elim there ∥∥₁_prop go

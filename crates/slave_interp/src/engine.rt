@@ -201,7 +201,9 @@ impl Engine {
 
 impl Engine {
     ghost use Rattle.std.specs.Prelude.{◌≡◌, Err, IfOk, OnOk, false, true};
-    ghost use Rattle.marshalling.specs.declared.fault.BadReply.TheVariants.{Shape};
+    ghost use Rattle.std.specs.List.{list_any};
+    ghost use Rattle.marshalling.specs.declared.fault.BadReply.TheVariants.{Memory, Shape};
+    ghost use Rattle.marshalling.specs.Packing.{points};
     ghost use Rattle.pair_meaning.specs.SlaveRun as s;
     ghost use Rattle.slave_interp.specs.Engines.{IsPacked, MayCall, Runs};
 
@@ -252,6 +254,7 @@ impl Engine {
             (s.is_reply_to y callee.0 args.now reply.now ≡ true) × Runs self.new (s.with_reply y callee.0 args.now reply.now)) }
         ensures shape { result ≡ Err Shape → (y : s.Slave) → Runs self.old y →
             (s.is_reply_to y callee.0 args.now reply.now ≡ false) × Runs self.new y }
+        ensures sure { result ≡ Err Memory → list_any points args.now ≡ true }
     {
         let Some(signature) = self.gate.signature(callee) else {
             unreachable!();

@@ -23,11 +23,11 @@ impl Slave {
     ghost use Rattle.std.specs.Prelude.{◌≡◌, Err, IfOk, IsTrue, OnOk, false, true};
     ghost use Rattle.machine_memory.specs.Memory.{blocks_of};
     ghost use Rattle.host_models.specs.Fitting.{fits};
-    ghost use Rattle.marshalling.specs.declared.fault.BadReply.TheVariants.{Shape};
+    ghost use Rattle.marshalling.specs.declared.fault.BadReply.TheVariants.{Memory, Shape};
     ghost use Rattle.pt_core.specs.CodeTree.{view_boot};
     ghost use Rattle.pt_core.specs.WellFormed.{is_well_formed_boot};
     ghost use Rattle.pair_meaning.specs.SlaveRun as s;
-    ghost use Rattle.slave_interp.specs.Doings.{mode_in};
+    ghost use Rattle.slave_interp.specs.Doings.{mode_in, sends_blocks};
     ghost use Rattle.slave_interp.specs.Running.{next_of};
     ghost use Rattle.slave_interp.specs.Slaves.{HasRun, IsSlave};
 
@@ -78,12 +78,13 @@ impl Slave {
     }
 
     /// Takes the reply that it waits for. One that its call can't have is `Shape`, as each is where it waits for none, and
-    /// leaves it as it is.
+    /// leaves it as it is. Memory can't be wanting where no argument of the call points into a block.
     pub fn take(&mut self, alloc: Global, reply: &ReplyBody) -> Result<(), BadReply>
         ensures taken { OnOk result ((from : s.Slave) → IsSlave self.old from →
             (s.may_take from from.doing reply.now ≡ true) × IsSlave self.new (s.take reply.now from)) }
         ensures shape { result ≡ Err Shape → (from : s.Slave) → IsSlave self.old from →
             (s.may_take from from.doing reply.now ≡ false) × IsSlave self.new from }
+        ensures sure { result ≡ Err Memory → (from : s.Slave) → IsSlave self.old from → sends_blocks from.doing ≡ true }
     {
         let Doing::Waits { callee, args } = &self.doing else {
             return Err(BadReply::Shape);

@@ -1,5 +1,5 @@
 use Rattle.std.proofs.Common.{◌≡◌, Err, inl, inr, rules}
-use Rattle.pair_runner.proofs.Stuck.{unfed_moves}
+use Rattle.pair_runner.proofs.InTurn.{in_turn_none, unfed_moves}
 use Rattle.pair_runner.proofs.serving.turn.Goals as goal
 
 pub returns-in_err-hear-clause-turned : goal.returns-in_err-hear-clause-turned

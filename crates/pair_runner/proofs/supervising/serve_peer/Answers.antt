@@ -1,5 +1,6 @@
 use Rattle.std.proofs.Common.{◌≡◌, ◌∙◌, Err, refl, rules}
 use Rattle.monitor_interp.specs.Monitors.{IsMonitor}
+use Rattle.pair_runner.proofs.Breaking.{long_broke, turn_broke}
 use Rattle.pair_runner.proofs.Looping.{first_now, next_now, end_outcome, err_outcome, long_outcome}
 use Rattle.pair_runner.proofs.supervising.serve_peer.Goals as goal
 
@@ -36,3 +37,14 @@ returns-in-Some-clause-outcome g c = λ m at.
 pub returns-clause-outcome : goal.returns-clause-outcome
 returns-clause-outcome g c = λ m at.
     long_outcome g.L.Link.came g.L.Link.sent g.L.Link.given g.K.Sink.taken c.args.link.now c.loop.link c.args.sink.now c.loop.sink (IsMonitor c.loop.monitor) m c.loop.reader (c.loop.invariant.each m at)
+
+pub returns-in_err-end-clause-in_turn : goal.returns-in_err-end-clause-in_turn
+returns-in_err-end-clause-in_turn g c =
+    let is : c.from_residual.result ≡ Err c.in_err-end.field-0.0 = search rules in
+    λ m at.
+    let n = c.loop.invariant.each m at in
+    rw is (turn_broke g.L.Link.came g.L.Link.sent g.L.Link.given g.K.Sink.taken c.args.link.now c.loop.link c.turn.new.link c.args.sink.now c.loop.sink c.turn.new.sink (IsMonitor c.loop.monitor) (IsMonitor c.turn.new.monitor) m c.loop.reader c.turn.new.reader c.in_err-end.field-0.0 n (c.in_err-end.ensures.turned n.now n.is_now))
+
+pub returns-clause-in_turn : goal.returns-clause-in_turn
+returns-clause-in_turn g c = λ m at.
+    long_broke g.L.Link.came g.L.Link.sent g.L.Link.given g.K.Sink.taken c.args.link.now c.loop.link c.args.sink.now c.loop.sink (IsMonitor c.loop.monitor) m c.loop.reader (c.loop.invariant.each m at)

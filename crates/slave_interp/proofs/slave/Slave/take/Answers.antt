@@ -1,8 +1,11 @@
-use Rattle.std.proofs.Common.{◌≡◌, Err, List, ap, false, subst, sym, true}
+use Rattle.std.proofs.Common.{◌≡◌, ◌∙◌, Err, List, ap, false, subst, sym, true}
+use Rattle.std.specs.List.{list_any}
+use Rattle.marshalling.specs.Packing.{points}
+use Rattle.slave_interp.specs.Doings.{sends_blocks}
 use Rattle.block_memory.specs.declared.cell.Cell.{Cell}
 use Rattle.pair_meaning.specs.SlaveRun.{Slave, is_reply_to, with_reply}
 use Rattle.slave_interp.specs.Engines.{MayCall, Runs}
-use Rattle.slave_interp.proofs.SlaveLemmas.{may_take_reply, refused_somewhere, takes_at, took_somewhere}
+use Rattle.slave_interp.proofs.SlaveLemmas.{may_take_reply, refused_somewhere, takes_at, took_somewhere, waits_for_it}
 use Rattle.slave_interp.proofs.slave.Slave.take.Goals as goal
 
 pub take-requires : goal.take-requires
@@ -28,3 +31,8 @@ pub returns-in-Ok-clause-taken : goal.returns-in-Ok-clause-taken
 returns-in-Ok-clause-taken c =
     takes_at c.args.self.now.engine c.take.new.self c.args.self.now.doing c.in-Waits.callee c.in-Waits.args c.args.reply.now c.in-Waits.is
     (subst (λ (xs : List Cell). (y : Slave) → Runs c.args.self.now.engine y → (is_reply_to y c.in-Waits.callee.0 xs c.args.reply.now ≡ true) × Runs c.take.new.self (with_reply y c.in-Waits.callee.0 xs c.args.reply.now)) c.as_slice.ensures.value c.in-Ok.ensures.taken)
+
+pub returns-in-Err-Memory-clause-sure : goal.returns-in-Err-Memory-clause-sure
+returns-in-Err-Memory-clause-sure c = λ e from is.
+    ap sends_blocks (waits_for_it c.args.self.now.engine c.args.self.now.doing c.in-Waits.callee c.in-Waits.args from c.in-Waits.is is)
+    ∙ subst (λ (xs : List Cell). list_any points xs ≡ true) c.as_slice.ensures.value (c.in-Err-Memory.ensures.sure (ap (λ b. Err b) c.in-Err-Memory.field-0-is))
